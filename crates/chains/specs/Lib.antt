@@ -1,0 +1,4 @@
+pub mod Descriptors
+pub mod Chains
+pub mod Usable
+pub mod Laws

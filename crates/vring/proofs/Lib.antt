@@ -1,0 +1,3 @@
+pub mod Binds
+pub mod Bytes
+pub mod Stores

@@ -1,0 +1,5 @@
+pub mod Words
+pub mod Programs
+pub mod Rings
+pub mod Layouts
+pub mod Plain

@@ -1,0 +1,6 @@
+// Guest memory, the numbers in it, and where a ring stands.
+pub mod layout;
+pub mod memory;
+pub mod plain;
+pub mod plain_memory;
+pub mod ring;
