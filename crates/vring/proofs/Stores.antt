@@ -50,10 +50,13 @@ plain-get (suc n) a m h =
     (ends-then plain (get-bytes n (a + 1)) k m ∙ (ap (λ xs. getD m a 0 ∷ xs) (ih .0 ∙ ap (λ j. take n (drop j m)) (add-one a)) ∙ ap (take (suc n)) (sym d)),
      leaves-then plain (get-bytes n (a + 1)) k m ∙ ih .1)
 
--- a part that was written as a whole
-pub put-part : (m ys xs : List ℕ) (a k : ℕ) → ys ≡ xs → k ≡ length xs → a + length xs ≤ length m → putMid a k m ys ≡ leaves plain (put-bytes a xs) m
+-- a middle part that was written as a whole
+pub put-middle : (m ys xs : List ℕ) (a k : ℕ) → ys ≡ xs → k ≡ length xs → putMid a k m ys ≡ set-bytes m a xs
 unfolding set-bytes
-put-part m ys xs a k e h l = let p : putMid a k m ys ≡ set-bytes m a xs = rw (e, h, drop-drop) in p ∙ sym (plain-put a xs m l)
+put-middle m ys xs a k e h = rw (e, h, drop-drop)
+
+pub put-part : (m ys xs : List ℕ) (a k : ℕ) → ys ≡ xs → k ≡ length xs → a + length xs ≤ length m → putMid a k m ys ≡ leaves plain (put-bytes a xs) m
+put-part m ys xs a k e h l = put-middle m ys xs a k e h ∙ sym (plain-put a xs m l)
 
 pub put-long : (m xs : List ℕ) (a : ℕ) → a + length xs ≤ length m → length (leaves plain (put-bytes a xs) m) ≡ length m
 put-long m xs a l = ap length (plain-put a xs m l) ∙ set-length m a xs l

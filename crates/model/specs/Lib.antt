@@ -1,0 +1,4 @@
+pub mod Serving
+pub mod Promises
+pub mod Meanings
+pub mod Example
