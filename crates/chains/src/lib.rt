@@ -5,5 +5,6 @@ pub mod flags;
 pub mod follow;
 pub mod laws;
 pub mod region;
+pub mod ring_parts;
 pub mod table;
 pub mod usable;
