@@ -1,0 +1,4 @@
+pub mod Rings
+pub mod Looks
+pub mod Acts
+pub mod Serves
