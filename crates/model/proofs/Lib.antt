@@ -2,3 +2,5 @@ pub mod Rings
 pub mod Looks
 pub mod Acts
 pub mod Serves
+pub mod Asked
+pub mod Examples
