@@ -4,3 +4,5 @@ pub mod Acts
 pub mod Serves
 pub mod Asked
 pub mod Examples
+pub mod Tallies
+pub mod Founds
