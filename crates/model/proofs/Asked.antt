@@ -1,9 +1,9 @@
 -- A guest that keeps to the rules is served as by a device that is asked one thing after the other.
-use mathlib.Core.Path.{_≡_, refl, sym, _∙_, ap}
-use mathlib.Core.Bool.{Bool, true, false}
+use mathlib.Core.Path.{_≡_, refl, _∙_, ap}
+use mathlib.Core.Bool.{false}
 use mathlib.Core.List.{List}
 use mathlib.Core.Logic.{_⊎_, inl, inr}
-use Prim.Native.Nat.{ℕ, zero, suc, _+_, _*_, _-_, _≤_, _<_, _%_}
+use Prim.Native.Nat.{ℕ, zero, suc, _+_, _-_, _≤_, _<_, _%_}
 use native.Mathlib.Omega.{arith}
 use lib.ListN.{length, getD}
 use Rattle.vring.specs.Rings.{Ring, ends-at}
@@ -12,8 +12,8 @@ use Rattle.chains.specs.declared.descriptor.Descriptor.{Descriptor}
 use Rattle.chains.proofs.Meanings.{all-fit}
 use Rattle.transfer.specs.Requests.{request}
 use Rattle.device.specs.Device.{kept-after}
-use Rattle.model.specs.Serving.{pending, head, regions, Look, job, offer, look, State, done, act, serve, serve-times}
-use Rattle.model.specs.Promises.{Sound, waits, Writes, Reads, Orderly, kept-in-order, In-order, As-asked}
+use Rattle.model.specs.Serving.{pending, head, regions, job, offer, State, done, act, serve, serve-times}
+use Rattle.model.specs.Promises.{Sound, waits, Writes, Reads, Orderly, kept-in-order, As-asked}
 use Rattle.model.proofs.Rings.{Stands, entry-within}
 use Rattle.model.proofs.Looks.{reads-clear, offer-job, look-job, Same-ring, pending-same, offer-same, offer-round}
 use Rattle.model.proofs.Serves.{ring-stands, done-length, done-where, done-ring, done-sound}
@@ -40,18 +40,18 @@ module _ (r : Ring) (b : State) (n : ℕ) (c : ℕ → List Descriptor) (h : Sou
     fit-here : All-fit (regions r) (length (b .memory)) (c j)
     fit-here =
         all-fit (regions r) (length (b .memory)) false (c j)
-          (offer-job r (b .memory) (b .device .served + j) (head r (b .memory) (b .device .served + j)) (c j) (request (b .memory) (c j)) (o .offers j l) .good)
+        (offer-job r (b .memory) (b .device .served + j) (head r (b .memory) (b .device .served + j)) (c j) (request (b .memory) (c j)) (o .offers j l) .good)
 
     -- what the chain reads is as it was
     reads-same : (a : ℕ) → Reads (c j) a → getD (x .memory) a 0 ≡ getD (b .memory) a 0
     reads-same a p =
         elim (al .touched a) [
-          inl e ↦ e
-        | inr t ↦
-            elim t [
-              inl u ↦ let w = reads-clear r (length (b .memory)) (c j) a fit-here p in absurd (omega arith)
-            | inr w ↦ absurd (o .apart (w .0) j a (w .1) l (w .2) p)
-            ]
+          | inl e ↦ e
+          | inr t ↦
+              elim t [
+                | inl u ↦ let w = reads-clear r (length (b .memory)) (c j) a fit-here p in absurd (omega arith)
+                | inr w ↦ absurd (o .apart (w .0) j a (w .1) l (w .2) p)
+              ]
         ]
 
     next : offer r (x .memory) (x .device .served) ≡ job (head r (b .memory) (b .device .served + j)) (c j) (request (b .memory) (c j))
@@ -69,9 +69,11 @@ module _ (r : Ring) (b : State) (n : ℕ) (c : ℕ → List Descriptor) (h : Sou
     pub serves : serve r x ≡ done r x (head r (b .memory) (b .device .served + j)) (c j) (request (b .memory) (c j))
     unfolding serve act
     serves =
-        rw (al .running,
-            look-job r (x .memory) (x .device .served) (head r (b .memory) (b .device .served + j)) (c j) (request (b .memory) (c j))
-              (omega (arith, waits-now, o .enough)) (omega (arith, waits-now, o .not-more)) next)
+        rw (
+          al .running,
+          look-job r (x .memory) (x .device .served) (head r (b .memory) (b .device .served + j)) (c j) (request (b .memory) (c j))
+              (omega (arith, waits-now, o .enough)) (omega (arith, waits-now, o .not-more)) next,
+        )
 
     fit-now : All-fit (regions r) (length (x .memory)) (c j)
     fit-now = rw (al .size) fit-here
@@ -90,18 +92,18 @@ module _ (r : Ring) (b : State) (n : ℕ) (c : ℕ → List Descriptor) (h : Sou
           kept = ap (λ (k : List ℕ). kept-after k q) (al .kept);
           served = omega (arith, al .served);
           touched = λ a. elim (done-where r x i (c j) q sx fit-now a) [
-              inl e ↦
+            | inl e ↦
                 elim (al .touched a) [
-                  inl y ↦ inl (e ∙ y)
-                | inr t ↦ elim t [ inl u ↦ inr (inl u) | inr w ↦ inr (inr (w .0, omega (arith, w .1), w .2)) ]
+                  | inl y ↦ inl (e ∙ y)
+                  | inr t ↦ elim t [ inl u ↦ inr (inl u) | inr w ↦ inr (inr (w .0, omega (arith, w .1), w .2)) ]
                 ]
             | inr t ↦
                 let w = entry-within r (x .device .served) (length (x .memory)) sx in
                 elim t [
-                  inl u ↦ inr (inl (omega arith, omega arith))
-                | inr v ↦ elim v [ inl u ↦ inr (inl (omega arith, omega arith)) | inr y ↦ inr (inr (j, omega arith, y)) ]
+                  | inl u ↦ inr (inl (omega arith, omega arith))
+                  | inr v ↦ elim v [ inl u ↦ inr (inl (omega arith, omega arith)) | inr y ↦ inr (inr (j, omega arith, y)) ]
                 ]
-            ];
+          ];
         }
 
   start : Along r b c 0 b

@@ -12,7 +12,6 @@ use Rattle.transfer.specs.Requests.{request}
 use Rattle.transfer.specs.Responses.{capacity, filled, used, finished}
 use Rattle.device.specs.Device.{is-read, is-write, response, kept-after}
 use Rattle.model.specs.Serving.{pending, head, chain, look-chain, offer, look, cut, done, act, serve}
-use Rattle.model.specs.Promises.{Sound, Orderly}
 use Rattle.model.specs.Example.{Example-served, Example-orderly}
 
 pub served : Example-served
@@ -21,9 +20,10 @@ served = refl
 
 pub orderly : Example-orderly
 unfolding size-ok ring-ok descriptor-at next-at chain-from clear fits usable request pending head chain look-chain offer
-orderly =
-    (record { stands = refl; kept-len = lit≤ tt; count = lit< tt },
-     record { running = refl; enough = lit≤ tt; not-more = lit≤ tt; offers = λ j l. rw (zero-of j l); apart = λ j k a l g w v. absurd (omega arith) })
+orderly = (
+  record { stands = refl; kept-len = lit≤ tt; count = lit< tt },
+  record { running = refl; enough = lit≤ tt; not-more = lit≤ tt; offers = λ j l. rw (zero-of j l); apart = λ j k a l g w v. absurd (omega arith) },
+)
   where
     zero-of : (j : ℕ) → j < 1 → j ≡ 0
     zero-of j l = omega arith

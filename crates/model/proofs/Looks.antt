@@ -11,14 +11,14 @@ use Rattle.std.proofs.shelf.Lists.{ext-getD, length-take, length-drop, getD-tak
 use Rattle.std.proofs.shelf.Tests.{leb-true, le-leb, eqb-true, eqb-false, ne-eqb, ltb-true, cond-both, cases-bool}
 use Rattle.vring.specs.Words.{word}
 use Rattle.vring.specs.Rings.{Ring, available-at, used-at, ends-at, head-at}
-use Rattle.chains.specs.Descriptors.{writable, has-next, descriptor-at, next-at}
-use Rattle.chains.specs.Chains.{Walk, bad, goes, with-first, chain-from}
+use Rattle.chains.specs.Descriptors.{writable, descriptor-at, next-at}
+use Rattle.chains.specs.Chains.{Walk, bad, goes, chain-from}
 use Rattle.chains.specs.Usable.{usable}
 use Rattle.chains.specs.Laws.{All-fit}
 use Rattle.chains.specs.declared.descriptor.Descriptor.{Descriptor}
 use Rattle.transfer.specs.Requests.{request}
 use Rattle.model.specs.Serving.{pending, head, chain, regions, Look, nothing, halt, job, look-chain, offer, look}
-use Rattle.model.specs.Promises.{In-part, Writes, Reads}
+use Rattle.model.specs.Promises.{Writes, Reads}
 use Rattle.model.proofs.Rings.{Stands, place-lt, head-round}
 
 -- ## Parts that keep clear of the ring
@@ -26,16 +26,16 @@ pub writes-clear : (r : Ring) (n : ℕ) (ds : List Descriptor) (a : ℕ) → All
 writes-clear r n [] a f w = absurd w
 writes-clear r n (d ∷ ds) a f w =
     elim w [
-      inl p ↦ (omega (arith, f .0 .inside, p), elim (f .0 .apart .0) [ inl l ↦ inl (omega (arith, p)) | inr g ↦ inr (omega (arith, p)) ])
-    | inr q ↦ writes-clear r n ds a (f .1) q
+      | inl p ↦ (omega (arith, f .0 .inside, p), elim (f .0 .apart .0) [ inl l ↦ inl (omega (arith, p)) | inr g ↦ inr (omega (arith, p)) ])
+      | inr q ↦ writes-clear r n ds a (f .1) q
     ]
 
 pub reads-clear : (r : Ring) (n : ℕ) (ds : List Descriptor) (a : ℕ) → All-fit (regions r) n ds → Reads ds a → (a < n) × ((a < r .base) ⊎ (ends-at r ≤ a))
 reads-clear r n [] a f w = absurd w
 reads-clear r n (d ∷ ds) a f w =
     elim w [
-      inl p ↦ (omega (arith, f .0 .inside, p), elim (f .0 .apart .0) [ inl l ↦ inl (omega (arith, p)) | inr g ↦ inr (omega (arith, p)) ])
-    | inr q ↦ reads-clear r n ds a (f .1) q
+      | inl p ↦ (omega (arith, f .0 .inside, p), elim (f .0 .apart .0) [ inl l ↦ inl (omega (arith, p)) | inr g ↦ inr (omega (arith, p)) ])
+      | inr q ↦ reads-clear r n ds a (f .1) q
     ]
 
 -- ## What an offer is
@@ -51,19 +51,19 @@ unfolding look-chain
 look-chain-job r m h i bad ds q e = let z : _≡_ {A = ℕ} 0 1 = cc in absurd (omega arith)
 look-chain-job r m h i (goes cs) ds q e =
     cond-both (usable (regions r) (length m) false cs) (job h cs (request m cs)) halt
-      (λ l. l ≡ job i ds q → (h ≡ i) × (goes cs ≡ goes ds) × (usable (regions r) (length m) false ds ≡ true) × (q ≡ request m ds))
-      (λ u p. let s : cs ≡ ds = cc in (cc, cc, cc, cc))
-      (λ u p. let z : _≡_ {A = ℕ} 0 1 = cc in absurd (omega arith))
-      e
+    (λ l. l ≡ job i ds q → (h ≡ i) × (goes cs ≡ goes ds) × (usable (regions r) (length m) false ds ≡ true) × (q ≡ request m ds))
+    (λ u p. let s : cs ≡ ds = cc in (cc, cc, cc, cc))
+    (λ u p. let z : _≡_ {A = ℕ} 0 1 = cc in absurd (omega arith))
+    e
 
 look-chain-not-nothing : (r : Ring) (m : List ℕ) (h : ℕ) (c : Walk) → look-chain r m h c ≡ nothing → ⊥
 unfolding look-chain
 look-chain-not-nothing r m h bad e = let z : _≡_ {A = ℕ} 0 1 = cc in omega arith
 look-chain-not-nothing r m h (goes cs) e =
     cond-both (usable (regions r) (length m) false cs) (job h cs (request m cs)) halt (λ l. l ≡ nothing → ⊥)
-      (λ u q. let z : _≡_ {A = ℕ} 0 1 = cc in omega arith)
-      (λ u q. let z : _≡_ {A = ℕ} 0 1 = cc in omega arith)
-      e
+    (λ u q. let z : _≡_ {A = ℕ} 0 1 = cc in omega arith)
+    (λ u q. let z : _≡_ {A = ℕ} 0 1 = cc in omega arith)
+    e
 
 pub offer-job : (r : Ring) (m : List ℕ) (k i : ℕ) (ds : List Descriptor) (q : List ℕ) → offer r m k ≡ job i ds q → Offered r m k i ds q
 unfolding offer
@@ -86,10 +86,10 @@ pub look-cases : (r : Ring) (m : List ℕ) (s : ℕ) (P : Look → Type 0) →
 unfolding look
 look-cases r m s P pn ph pj =
     cond-both (eqb (pending r m s) 0) nothing (cond (leb (pending r m s) (r .size)) (offer r m s) halt) P
-      (λ e. pn (eqb-true (pending r m s) 0 e))
-      (λ e. cond-both (leb (pending r m s) (r .size)) (offer r m s) halt P
-        (λ f. go (omega (arith, eqb-false (pending r m s) 0 e)) (leb-true (pending r m s) (r .size) f) (offer r m s) refl)
-        (λ f. ph))
+    (λ e. pn (eqb-true (pending r m s) 0 e))
+    (λ e. cond-both (leb (pending r m s) (r .size)) (offer r m s) halt P
+    (λ f. go (omega (arith, eqb-false (pending r m s) 0 e)) (leb-true (pending r m s) (r .size) f) (offer r m s) refl)
+    (λ f. ph))
   where
     go : 0 < pending r m s → pending r m s ≤ r .size → (l : Look) → offer r m s ≡ l → P l
     go h1 h2 nothing q = absurd (offer-not-nothing r m s q)
@@ -126,13 +126,13 @@ unfolding chain-from
 chain-same zero t n m m′ h i = refl
 chain-same (suc f) t n m m′ h i =
     elim (cases-bool (ltb i n)) [
-      inl e ↦
-        let l : i < n = ltb-true i n e in
-        let p = t + 8 * i in
-        let at : (k : ℕ) → k ≤ 6 → word m′ (p + k) ≡ word m (p + k) = λ k b. word-in t (t + 8 * n) m m′ h (p + k) (omega arith) (omega arith) in
-        let same = descriptor-same m m′ p (word-in t (t + 8 * n) m m′ h p (omega arith) (omega arith)) (at 2 (omega arith)) (at 4 (omega arith)) in
-        rw (e, same, next-same m m′ p (at 6 (omega arith)), chain-same f t n m m′ h (next-at m p))
-    | inr e ↦ rw e
+      | inl e ↦
+          let l : i < n = ltb-true i n e in
+          let p = t + 8 * i in
+          let at : (k : ℕ) → k ≤ 6 → word m′ (p + k) ≡ word m (p + k) = λ k b. word-in t (t + 8 * n) m m′ h (p + k) (omega arith) (omega arith) in
+          let same = descriptor-same m m′ p (word-in t (t + 8 * n) m m′ h p (omega arith) (omega arith)) (at 2 (omega arith)) (at 4 (omega arith)) in
+          rw (e, same, next-same m m′ p (at 6 (omega arith)), chain-same f t n m m′ h (next-at m p))
+      | inr e ↦ rw e
     ]
 
 pub head-same : (r : Ring) (n : ℕ) (m m′ : List ℕ) (k : ℕ) → Stands r n → Same-ring r m m′ → head r m′ k ≡ head r m k
@@ -171,13 +171,13 @@ offer-same r m m′ k i ds q s e h g o =
     let j = offer-job r m k i ds q o in
     let hd = head-same r (length m) m m′ k s h in
     job-offer r m′ k i ds q (record {
-        first = hd ∙ j .first;
-        follows = rw hd (ring-chain-same r m m′ (head r m k) h ∙ j .follows);
-        good = rw e (j .good);
-        asks = j .asks ∙ sym (request-same m m′ ds e g);
-      })
+      first = hd ∙ j .first;
+      follows = rw hd (ring-chain-same r m m′ (head r m k) h ∙ j .follows);
+      good = rw e (j .good);
+      asks = j .asks ∙ sym (request-same m m′ ds e g);
+    })
 
--- a count and the same count modulo 65,536 offer the same chain
+-- a count and the same count modulo 65,536 have the same head, and offer the same chain
 pub head-of-round : (r : Ring) (m : List ℕ) (k : ℕ) → Stands r (length m) → head r m (k % 65536) ≡ head r m k
 unfolding head
 head-of-round r m k s = ap (λ (a : ℕ). word m a) (head-round r (length m) k s)

@@ -1,12 +1,12 @@
 -- A ring that stands in memory, and the places of its heads and used entries.
-use mathlib.Core.Path.{_≡_, refl, ap}
-use mathlib.Core.Bool.{Bool, true, _&&_}
-use Prim.Native.Nat.{ℕ, _+_, _*_, _≤_, _<_, _%_}
+use mathlib.Core.Path.{_≡_}
+use mathlib.Core.Bool.{true, _&&_}
+use Prim.Native.Nat.{ℕ, _+_, _≤_, _<_, _%_}
 use native.Mathlib.Nat.{mod-lt, mod-mod-of-dvd, dvd-of-mod-eq-zero}
 use native.Mathlib.Omega.{arith}
 use lib.Dec.{leb, eqb}
 use Rattle.std.proofs.shelf.Tests.{and-parts, leb-true, eqb-true}
-use Rattle.vring.specs.Rings.{Ring, available-at, used-at, ends-at, head-at, entry-at, size-ok, ring-ok}
+use Rattle.vring.specs.Rings.{Ring, used-at, ends-at, head-at, entry-at, size-ok, ring-ok}
 
 pub record Stands (r : Ring) (n : ℕ) : Type 0 where
   pub some : 1 ≤ r .size

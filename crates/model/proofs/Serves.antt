@@ -1,9 +1,9 @@
 -- One serving, by cases, and what it leaves; and many.
-use mathlib.Core.Path.{_≡_, refl, sym, _∙_, ap}
-use mathlib.Core.Bool.{Bool, true, false, cond}
-use mathlib.Core.List.{List, [], _∷_}
+use mathlib.Core.Path.{_≡_, refl, _∙_, ap}
+use mathlib.Core.Bool.{true, false}
+use mathlib.Core.List.{List}
 use mathlib.Core.Logic.{_⊎_, inl, inr}
-use Prim.Native.Nat.{ℕ, zero, suc, _+_, _*_, _-_, _≤_, _<_, _%_}
+use Prim.Native.Nat.{ℕ, zero, suc, _-_, _≤_, _<_}
 use native.Mathlib.Omega.{arith}
 use lib.ListN.{length, getD}
 use Rattle.std.proofs.shelf.Tests.{cond-both, both-ways}
@@ -13,9 +13,8 @@ use Rattle.chains.specs.declared.descriptor.Descriptor.{Descriptor}
 use Rattle.chains.proofs.Meanings.{all-fit}
 use Rattle.transfer.specs.Requests.{request}
 use Rattle.transfer.specs.Responses.{following}
-use Rattle.device.specs.Device.{kept-after}
 use Rattle.device.proofs.Requests.{kept-length}
-use Rattle.model.specs.Serving.{pending, regions, Look, nothing, job, offer, look, State, cut, stop, done, act, serve, serve-times}
+use Rattle.model.specs.Serving.{pending, regions, nothing, job, offer, look, State, cut, stop, done, act, serve, serve-times}
 use Rattle.model.specs.Promises.{Sound, waits, Writes, In-count, In-entry, Stays-sound, Stays-stopped, Done-with, Waits-means}
 use Rattle.model.proofs.Rings.{Stands, stands}
 use Rattle.model.proofs.Looks.{offer-job, look-cases, Same-ring, pending-same}
@@ -65,9 +64,9 @@ pub serve-cases : (r : Ring) (b : State) (P : State → Type 0) →
 unfolding serve act
 serve-cases r b P pb ps pd =
     cond-both (b .device .stopped) b (act r b (look r (b .memory) (b .device .served))) P
-      (λ e. pb (inl e))
-      (λ e. look-cases r (b .memory) (b .device .served) (λ l. P (act r b l)) (λ w. pb (inr w)) ps
-        (λ i ds x h1 h2 q. let a = offer-job r (b .memory) (b .device .served) i ds x q .asks in rw a (pd i ds e h1 h2 (rw a at q))))
+    (λ e. pb (inl e))
+    (λ e. look-cases r (b .memory) (b .device .served) (λ l. P (act r b l)) (λ w. pb (inr w)) ps
+    (λ i ds x h1 h2 q. let a = offer-job r (b .memory) (b .device .served) i ds x q .asks in rw a (pd i ds e h1 h2 (rw a at q))))
 
 pub serve-sound : (r : Ring) (b : State) → Sound r b → Sound r (serve r b)
 serve-sound r b h = serve-cases r b (λ x. Sound r x) (λ _. h) (stop-sound r b h) (λ i ds _ _ _ q. done-sound r b i ds (request (b .memory) ds) (fits-all r b i ds q) h)
@@ -114,7 +113,7 @@ done-waits r b i ds q h l f =
     let st = ring-stands r b h in
     let e : done r b i ds q .device .served ≡ following (b .device .served) = unfold done in refl in
     rw (e, pending-same r (length (b .memory)) (b .memory) (done r b i ds q .memory) (following (b .device .served)) st (done-ring r b i ds q st f))
-      (pending-less r (b .memory) (b .device .served) (h .count) l)
+    (pending-less r (b .memory) (b .device .served) (h .count) l)
 
 pub count-down : (n : ℕ) (r : Ring) (b : State) → Sound r b → (serve-times n r b .device .stopped ≡ true) ⊎ (waits r (serve-times n r b) ≡ waits r b - n)
 unfolding serve-times stop
@@ -122,12 +121,12 @@ count-down zero r b h = inr (omega arith)
 count-down (suc n) r b h =
     let ih = count-down n r b h in
     serve-cases r (serve-times n r b) (λ x. (x .device .stopped ≡ true) ⊎ (waits r x ≡ waits r b - suc n))
-      (λ p. elim p [ inl e ↦ inl e | inr z ↦ elim ih [ inl e ↦ inl e | inr w ↦ inr (omega arith) ] ])
-      (inl refl)
-      (λ i ds e l g q. elim ih [
-          inl t ↦ absurd (both-ways (serve-times n r b .device .stopped) e t)
-        | inr w ↦ inr (omega (arith, done-waits r (serve-times n r b) i ds (request (serve-times n r b .memory) ds) (stays-sound r b n h) l (fits-all r (serve-times n r b) i ds q)))
-        ])
+    (λ p. elim p [ inl e ↦ inl e | inr z ↦ elim ih [ inl e ↦ inl e | inr w ↦ inr (omega arith) ] ])
+    (inl refl)
+    (λ i ds e l g q. elim ih [
+      | inl t ↦ absurd (both-ways (serve-times n r b .device .stopped) e t)
+      | inr w ↦ inr (omega (arith, done-waits r (serve-times n r b) i ds (request (serve-times n r b .memory) ds) (stays-sound r b n h) l (fits-all r (serve-times n r b) i ds q)))
+    ])
 
 pub done-with : Done-with
 done-with r b n h l = elim (count-down n r b h) [ inl e ↦ inl e | inr w ↦ inr (omega arith) ]

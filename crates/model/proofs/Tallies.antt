@@ -1,9 +1,9 @@
 -- Which jobs so many servings did.
 use mathlib.Core.Path.{_≡_, refl, sym, _∙_, ap}
-use mathlib.Core.Bool.{Bool, true, false}
+use mathlib.Core.Bool.{true, false}
 use mathlib.Core.List.{List, [], _∷_, _++_}
 use mathlib.Core.Logic.{_⊎_, inl, inr}
-use Prim.Native.Nat.{ℕ, zero, suc, _+_, _*_, _-_, _≤_, _<_, _%_}
+use Prim.Native.Nat.{ℕ, zero, suc, _+_, _<_}
 use native.Mathlib.Omega.{arith}
 use lib.ListN.{length, getD}
 use Rattle.std.proofs.shelf.Lists.{getD-append-left, getD-push, length-push}
@@ -14,7 +14,7 @@ use Rattle.chains.specs.Laws.{All-fit}
 use Rattle.chains.specs.declared.descriptor.Descriptor.{Descriptor}
 use Rattle.transfer.specs.Requests.{request}
 use Rattle.device.specs.Device.{kept-after}
-use Rattle.model.specs.Serving.{head, chain, regions, State, stop, done, serve, serve-times}
+use Rattle.model.specs.Serving.{head, chain, regions, State, stop, done, serve-times}
 use Rattle.model.specs.Promises.{Sound, waits, Writes, In-count, In-entry, Job, no-job, kept-by, Entry-is, Account, Accounts}
 use Rattle.model.proofs.Rings.{Stands, entry-round}
 use Rattle.model.proofs.Looks.{offer-job, Same-ring, head-same, head-of-round, ring-chain-same}
@@ -29,8 +29,8 @@ push-each : (P : ℕ → Job → Type 0) (js : List Job) (j : Job) → ((k : ℕ
     (k : ℕ) → k < length (js ++ (j ∷ [])) → P k (getD (js ++ (j ∷ [])) k no-job)
 push-each P js j old new k l =
     elim (cases-lt k (length js)) [
-      inl g ↦ rw (getD-append-left js (j ∷ []) no-job k g) (old k g)
-    | inr g ↦ let e : length js ≡ k = omega (arith, length-push js j) in rw (getD-push js j no-job k e, ← e) new
+      | inl g ↦ rw (getD-append-left js (j ∷ []) no-job k g) (old k g)
+      | inr g ↦ let e : length js ≡ k = omega (arith, length-push js j) in rw (getD-push js j no-job k e, ← e) new
     ]
 
 -- an address that these jobs may have changed
@@ -112,10 +112,10 @@ module _ (r : Ring) (b : State) (n : ℕ) (x : State) (js : List Job) (h : Sound
       let o = offer-job r (x .memory) (x .device .served) i ds (request (x .memory) ds) nx in
       record {
         first =
-          sym (o .first)
-          ∙ ap (λ (k : ℕ). head r (x .memory) k) (t .account .served)
-          ∙ head-of-round r (x .memory) (b .device .served + length js) now
-          ∙ head-same r (length (b .memory)) (b .memory) (x .memory) (b .device .served + length js) stood (t .ring);
+            sym (o .first)
+            ∙ ap (λ (k : ℕ). head r (x .memory) k) (t .account .served)
+            ∙ head-of-round r (x .memory) (b .device .served + length js) now
+            ∙ head-same r (length (b .memory)) (b .memory) (x .memory) (b .device .served + length js) stood (t .ring);
         follows = sym (ring-chain-same r (b .memory) (x .memory) i (t .ring)) ∙ ap (λ (k : ℕ). chain r (x .memory) k) (sym (o .first)) ∙ o .follows;
         good = ap (λ (z : ℕ). usable (regions r) z false ds) (sym (t .account .size)) ∙ o .good;
         asks = ap (λ (m : List ℕ). request m ds) same ∙ ap (λ (k : ℕ). request (serve-times k r b .memory) ds) (sym e);
@@ -147,17 +147,17 @@ module _ (r : Ring) (b : State) (n : ℕ) (x : State) (js : List Job) (h : Sound
           kept = ap (λ (k : List ℕ). kept-after k q) (t .account .kept) ∙ sym (kept-push (b .device .kept) js the-job);
           size = done-length r x i ds q now fit ∙ t .account .size;
           only-there = λ a. elim (done-where r x i ds q now fit a) [
-              inl p ↦ elim (t .account .only-there a) [ inl y ↦ inl (p ∙ y) | inr u ↦ inr (touched-before r b js the-job a u) ]
+            | inl p ↦ elim (t .account .only-there a) [ inl y ↦ inl (p ∙ y) | inr u ↦ inr (touched-before r b js the-job a u) ]
             | inr u ↦ inr (here a u)
-            ];
+          ];
         };
       }
 
   does : x .device .stopped ≡ false → (ks : List Job) × Tally r b (suc n) (done r x i ds (request (x .memory) ds)) ks
   does run =
       elim (t .spent) [
-        inl e ↦ (js ++ (the-job ∷ []), more e)
-      | inr s ↦ elim s [ inl z ↦ absurd (both-ways (x .device .stopped) run z) | inr z ↦ absurd (omega arith) ]
+        | inl e ↦ (js ++ (the-job ∷ []), more e)
+        | inr s ↦ elim s [ inl z ↦ absurd (both-ways (x .device .stopped) run z) | inr z ↦ absurd (omega arith) ]
       ]
 
 -- ## Many servings
@@ -168,9 +168,9 @@ tally r b (suc n) h =
     let t = tally r b n h in
     let x = serve-times n r b in
     serve-cases r x (λ y. (js : List Job) × Tally r b (suc n) y js)
-      (λ e. (t .0, idle r b n x (t .0) e (t .1)))
-      (t .0, stops r b n x (t .0) (t .1))
-      (λ i ds run l _ nx. does r b n x (t .0) h (t .1) refl i ds l nx run)
+    (λ e. (t .0, idle r b n x (t .0) e (t .1)))
+    (t .0, stops r b n x (t .0) (t .1))
+    (λ i ds run l _ nx. does r b n x (t .0) h (t .1) refl i ds l nx run)
 
 pub accounts : Accounts
 accounts r b n h = let t = tally r b n h in (t .0, t .1 .account)
