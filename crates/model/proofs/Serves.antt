@@ -71,6 +71,12 @@ serve-cases r b P pb ps pd =
 pub serve-sound : (r : Ring) (b : State) → Sound r b → Sound r (serve r b)
 serve-sound r b h = serve-cases r b (λ x. Sound r x) (λ _. h) (stop-sound r b h) (λ i ds _ _ _ q. done-sound r b i ds (request (b .memory) ds) (fits-all r b i ds q) h)
 
+pub serve-length : (r : Ring) (b : State) → Sound r b → length (serve r b .memory) ≡ length (b .memory)
+unfolding stop
+serve-length r b h =
+    serve-cases r b (λ x. length (x .memory) ≡ length (b .memory)) (λ _. refl) refl
+    (λ i ds _ _ _ q. done-length r b i ds (request (b .memory) ds) (ring-stands r b h) (fits-all r b i ds q))
+
 -- ## Many servings
 pub stays-sound : Stays-sound
 unfolding serve-times

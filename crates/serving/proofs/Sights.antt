@@ -26,12 +26,6 @@ use Rattle.serving.specs.declared.job.Job.{Job}
 use Rattle.serving.specs.declared.job.Seen.{Seen}
 use Rattle.serving.specs.declared.job.Seen.the-variants.{Nothing, Halt, Ready}
 
--- parts that fit lie in memory
-pub fit-within : (gs : List Region) (n : ℕ) (ds : List Descriptor) → All-fit gs n ds → Within n ds
-fit-within gs n [] f k e l = absurd (omega arith)
-fit-within gs n (d ∷ ds) f zero e l = f .0 .inside
-fit-within gs n (d ∷ ds) f (suc k) e l = fit-within gs n ds (f .1) k e (omega arith)
-
 -- a walk that was found bad, or good
 pub walk-bad : (w : Walk) (ok : Bool) (xs ys : List Descriptor) → ok ≡ false → Follows w ok xs ys → w ≡ bad
 walk-bad bad ok xs ys e f = refl

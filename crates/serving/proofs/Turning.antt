@@ -29,16 +29,16 @@ module _ {M : Type 0} (acts : Acts M) (r : Ring) (n : ℕ) (d : Device) (m : M) 
   unfolding turn-prog
   turn-stopped s = rw s (refl, refl)
 
-  module _ (m₁ : M) (l : Look) (s : d .stopped ≡ false) (e : ends acts (look-prog r n (d .served)) m ≡ l) (e₁ : m₁ ≡ leaves acts (look-prog r n (d .served)) m) where
-    turn-looks : turn-prog r n d ≡ then (look-prog r n (d .served)) (λ x. act-prog r d x)
-    unfolding turn-prog
-    turn-looks = ap (λ b. cond b (ret (turned false d)) (then (look-prog r n (d .served)) (λ x. act-prog r d x))) s
+  pub turn-looks : d .stopped ≡ false → turn-prog r n d ≡ then (look-prog r n (d .served)) (λ x. act-prog r d x)
+  unfolding turn-prog
+  turn-looks s = ap (λ b. cond b (ret (turned false d)) (then (look-prog r n (d .served)) (λ x. act-prog r d x))) s
 
+  module _ (m₁ : M) (l : Look) (s : d .stopped ≡ false) (e : ends acts (look-prog r n (d .served)) m ≡ l) (e₁ : m₁ ≡ leaves acts (look-prog r n (d .served)) m) where
     turn-ends : ends acts (turn-prog r n d) m ≡ ends acts (act-prog r d l) m₁
-    turn-ends = ap (λ p. ends acts p m) turn-looks ∙ ends-by acts (look-prog r n (d .served)) (λ x. act-prog r d x) m m₁ l (sym e) e₁
+    turn-ends = ap (λ p. ends acts p m) (turn-looks s) ∙ ends-by acts (look-prog r n (d .served)) (λ x. act-prog r d x) m m₁ l (sym e) e₁
 
     turn-leaves : leaves acts (turn-prog r n d) m ≡ leaves acts (act-prog r d l) m₁
-    turn-leaves = ap (λ p. leaves acts p m) turn-looks ∙ leaves-by acts (look-prog r n (d .served)) (λ x. act-prog r d x) m m₁ l (sym e) e₁
+    turn-leaves = ap (λ p. leaves acts p m) (turn-looks s) ∙ leaves-by acts (look-prog r n (d .served)) (λ x. act-prog r d x) m m₁ l (sym e) e₁
 
     pub turn-nothing : l ≡ nothing → Turns m₁ false d
     unfolding act-prog

@@ -8,12 +8,14 @@ ghost use Rattle.std.specs.Options.{Cases};
 ghost use Rattle.vring.specs.Rings.{ends-at};
 ghost use Rattle.vring.specs.Layouts.{ring-of};
 ghost use Rattle.device.specs.Responds.{device-of};
+ghost use Rattle.model.specs.Promises.{Sound};
 ghost use Rattle.serving.specs.Entries.{state-ok, device-in, state-in, numbers-of, refusal, Serve-says, Serves, Promised, Anew-says, part};
 use device::progress::Progress;
 use vring::layout::Layout;
 use vring::memory::GuestMemory;
 use vring::plain::Plain;
 use vring::plain_memory::PlainMemory;
+use vring::words::word_at;
 use crate::done::Done;
 use crate::job::Job;
 use crate::turn::run;
@@ -42,7 +44,7 @@ fn write_state(state: &mut [u32], progress: &Progress)
 
 // At most `times` servings of memory as it stands, from one state to the next, and what is answered then.
 fn serve_plain(layout: &Layout, memory: &mut [u8], progress: &mut Progress, kept: &mut [u8], times: u64) -> Done
-    requires { ⌜ ends-at (ring-of (now layout)) ≤ length (now memory) ⌝ }
+    requires { ⌜ Sound (ring-of (now layout)) (record { memory = now memory; device = device-of (now progress) (now kept) }) ⌝ }
     ensures { λ d. ⌜ Serves (ring-of (now (layout .entry))) (record { memory = now (memory .entry); device = device-of (now (progress .entry)) (now (kept .entry)) }) times d (now (memory .exit)) (numbers-of (device-of (now (progress .exit)) (now (kept .exit)))) (now (kept .exit)) ⌝ }
 {
     let mut m = Plain { bytes: memory };
@@ -99,8 +101,8 @@ pub fn piece<'a>(places: u64, begins: u64, memory: &'a [u8], at: u64) -> &'a [u8
         return &memory[0..0];
     }
     let from = layout.base + 8 * at as usize;
-    let addr = u16::from_le_bytes([memory[from], memory[from + 1]]) as usize;
-    let len = u16::from_le_bytes([memory[from + 2], memory[from + 3]]) as usize;
+    let addr = word_at(memory, from) as usize;
+    let len = word_at(memory, from + 2) as usize;
     if addr + len > memory.len() {
         return &memory[0..0];
     }

@@ -4,3 +4,4 @@ pub mod memory;
 pub mod plain;
 pub mod plain_memory;
 pub mod ring;
+pub mod words;

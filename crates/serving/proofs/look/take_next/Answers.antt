@@ -10,7 +10,8 @@ use Rattle.chains.specs.Chains.{Walk, chain-prog, listed, Follows}
 use Rattle.chains.specs.Usable.{usable}
 use Rattle.chains.proofs.Meanings.{all-fit}
 use Rattle.model.specs.Serving.{regions}
-use Rattle.serving.proofs.Sights.{fit-within, walk-bad, walk-good, next-bad, next-unusable, next-ready, not-ready, sees-halt, sees-ready}
+use Rattle.model.proofs.Acts.{within-all}
+use Rattle.serving.proofs.Sights.{walk-bad, walk-good, next-bad, next-unusable, next-ready, not-ready, sees-halt, sees-ready}
 use Rattle.serving.proofs.look.take_next.Needs as need
 use Rattle.serving.proofs.look.take_next.Needs.{then-not-good·by·then-not-good, then-not-good·by·else-not-good·then-not-is-usable}
 
@@ -38,7 +39,7 @@ pub gather-job-requires : need.gather-job-requires
 gather-job-requires g c κs =
     let e : c .len .result ≡ g .M·GuestMemory .holds (c .follow-good .last .m) = c .len .ensures in
     let u = sym (c .if-not-is-usable .ensures tt) in
-    fit-within _ _ _ (all-fit _ _ false _ (ap (λ k. usable (c .region-of .result ∷ []) k false (listed (c .follow-good .last .out))) (sym e) ∙ u))
+    within-all _ _ _ (all-fit _ _ false _ (ap (λ k. usable (c .region-of .result ∷ []) k false (listed (c .follow-good .last .out))) (sym e) ∙ u))
 
 pub returns : need.returns
 returns g c =
@@ -52,4 +53,4 @@ returns g c =
     let l : c .len .result ≡ n = cc in
     let u = ap₂ (λ x k. usable (x ∷ []) k false (listed (c .follow-good .last .out))) (sym (c .region-of .ensures)) (sym l) ∙ sym (c .if-not-is-usable .ensures tt) in
     let b = next-ready acts r n (c .args .served) h m m₁ _ e e₁ _ refl k₁ _ _ _ (walk-good _ _ _ _ (c .clear .ensures .items) (c .if-not-good .left) f) u (c .gather-job .ensures .value) (c .gather-job .ensures .then) in
-    record { value = sees-ready _ _ (b .0); then = b .1; within = λ z. fit-within _ _ _ (all-fit _ _ false _ u); size = cc }
+    record { value = sees-ready _ _ (b .0); then = b .1; within = λ z. within-all _ _ _ (all-fit _ _ false _ u); size = cc }
