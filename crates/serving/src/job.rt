@@ -1,4 +1,8 @@
 // What a look finds.
+ghost use mathlib.Core.List.{[]};
+ghost use mathlib.Core.Path.{_≡_};
+ghost use Rattle.chains.specs.Chains.{listed};
+ghost use Rattle.transfer.specs.Requests.{held};
 use chains::chain::Chain;
 use transfer::request::Request;
 
@@ -22,7 +26,11 @@ pub enum Seen {
 
 impl Job {
     // A job with nothing in it.
-    pub fn new() -> Job {
+    pub fn new() -> Job
+        ensures head { λ j. ⌜ j .head ≡ 0 ⌝ }
+        ensures chain { λ j. ⌜ listed (j .chain) ≡ [] ⌝ }
+        ensures request { λ j. ⌜ held (j .request) ≡ [] ⌝ }
+    {
         Job {
             head: 0,
             chain: Chain::new(),
