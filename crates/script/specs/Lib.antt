@@ -1,2 +1,4 @@
 pub mod Format
 pub mod Marks
+pub mod Commands
+pub mod Keywords

@@ -1,0 +1,16 @@
+-- What the code's commands stand for.
+use mathlib.Core.List.{List}
+use Rattle.std.specs.Of.Vec.{vec-items}
+use Rattle.script.specs.declared.command.Command.{Command}
+use Rattle.script.specs.declared.command.Command.the-variants.{Memory, Ring, Bytes, Kept, Serve, Anew, Piece}
+use Rattle.script.specs.Format.{Cmd, memory, ring, bytes-at, kept, serve, anew, piece}
+
+-- the command that a value of the code stands for
+abbrev pub cmd-of : Command → Cmd
+cmd-of (Memory n) = memory n
+cmd-of (Ring size base) = ring size base
+cmd-of (Bytes at bytes) = bytes-at at (vec-items bytes)
+cmd-of (Kept n) = kept n
+cmd-of (Serve n) = serve n
+cmd-of Anew = anew
+cmd-of (Piece n) = piece n
