@@ -1,2 +1,4 @@
 pub mod Values
 pub mod Cuts
+pub mod Rows
+pub mod Says

@@ -6,3 +6,4 @@ mod mark;
 mod named;
 mod number;
 mod part;
+mod said;

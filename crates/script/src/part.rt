@@ -48,7 +48,8 @@ pub fn first_part<'a>(text: &'a [u8], mark: Mark) -> (&'a [u8], &'a [u8])
 
 // The first word of a line, and what stands behind it.
 pub fn first_word<'a>(line: &'a [u8]) -> Option<(&'a [u8], &'a [u8])>
-    ensures { λ r. ⌜ Cases r (words (now (line .entry)) ≡ []) (λ p. words (now (line .entry)) ≡ now (p .0) ∷ words (now (p .1))) ⌝ }
+    ensures words { λ r. ⌜ Cases r (words (now (line .entry)) ≡ []) (λ p. words (now (line .entry)) ≡ now (p .0) ∷ words (now (p .1))) ⌝ }
+    ensures shorter { λ r. ⌜ Cases r (Unit {0}) (λ p. length (now (p .1)) < length (now (line .entry))) ⌝ }
 {
     let mut rest = line;
     while !rest.is_empty() {
