@@ -2,3 +2,4 @@ pub mod Values
 pub mod Cuts
 pub mod Rows
 pub mod Says
+pub mod Texts

@@ -168,3 +168,35 @@ meaning size (w ∷ ws) = cond (eqb (getD w 0 0) 35) skipped (said (command size
 -- what a line says, in a memory of so many bytes
 abbrev pub line : (size : ℕ) → List ℕ → Line
 line size text = meaning size (words text)
+
+-- ## Texts
+
+-- how many bytes memory has after a command
+abbrev pub size-after : (size : ℕ) → Cmd → ℕ
+size-after size (memory n) = n
+size-after size (ring places base) = size
+size-after size (bytes-at at bytes) = size
+size-after size (kept n) = size
+size-after size (serve n) = size
+size-after size anew = size
+size-after size (piece n) = size
+
+-- a command before the others
+abbrev pub first : Cmd → Result (List Cmd) ℕ → Result (List Cmd) ℕ
+first c (Ok cs) = Ok (c ∷ cs)
+first c (Err n) = Err n
+
+-- what line n says, and then the lines behind it, which depend on how many bytes memory has
+abbrev pub go-on : Line → (size n : ℕ) → (others : ℕ → Result (List Cmd) ℕ) → Result (List Cmd) ℕ
+go-on skipped size n others = others size
+go-on (says c) size n others = first c (others (size-after size c))
+go-on unreadable size n others = Err n
+
+-- the commands of the lines from line n on, or the number of the first line that cannot be read
+abbrev pub read-lines : (size n : ℕ) → List (List ℕ) → Result (List Cmd) ℕ
+read-lines size n [] = Ok []
+read-lines size n (l ∷ ls) = go-on (line size l) size n (λ s. read-lines s (n + 1) ls)
+
+-- the commands of a text, or the number of its first line that cannot be read: lines count from 0, and memory has no bytes at first
+abbrev pub read : List ℕ → Result (List Cmd) ℕ
+read text = read-lines 0 0 (lines text)

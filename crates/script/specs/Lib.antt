@@ -2,3 +2,4 @@ pub mod Format
 pub mod Marks
 pub mod Commands
 pub mod Keywords
+pub mod Parses
