@@ -1,0 +1,51 @@
+// A whole script.
+ghost use Prim.Native.Nat.{_+_, _<_, _≤_};
+ghost use mathlib.Core.Path.{_≡_};
+ghost use Rattle.script.specs.Format.{size-after};
+ghost use Rattle.script.specs.Commands.{cmd-of};
+ghost use Rattle.script.specs.Parses.{Parsed};
+use std::alloc::Global;
+use crate::command::Command;
+use crate::fault::Fault;
+use crate::fault::FaultFromAlloc;
+use crate::fault::FaultFromRefused;
+use crate::line::read_line;
+use crate::mark::Mark;
+use crate::part::first_part;
+use crate::said::Said;
+
+impl Command {
+    // How many bytes memory has after the command, if it had `size` before.
+    fn size_after(&self, size: u64) -> u64
+        ensures { λ n. ⌜ n ≡ size-after size (cmd-of (now (self .entry))) ⌝ }
+    {
+        match self {
+            Command::Memory(n) => *n,
+            _ => size,
+        }
+    }
+}
+
+// The commands of a script, or its first line that cannot be read.
+pub fn parse(heap: Global, text: &[u8]) -> Result<Vec<Command>, Fault>
+    ensures { λ r. ⌜ Parsed (now (text .entry)) r ⌝ }
+{
+    let mut commands = Vec::new(heap);
+    let mut size = 0;
+    let mut number = 0;
+    let mut rest = text;
+    while !rest.is_empty() {
+        let (line, after) = first_part(rest, Mark::LineEnd);
+        match read_line(heap, size, line)? {
+            Said::Nothing => {}
+            Said::Command(command) => {
+                size = command.size_after(size);
+                commands.push(command)?;
+            }
+            Said::Unreadable => return Err(Fault::Line(number)),
+        }
+        number += 1;
+        rest = after;
+    }
+    Ok(commands)
+}
