@@ -1,0 +1,4 @@
+pub mod Refusals
+pub mod Bench
+pub mod Steps
+pub mod Runs
