@@ -3,3 +3,4 @@ pub mod Cuts
 pub mod Rows
 pub mod Says
 pub mod Texts
+pub mod Spaces

@@ -3,3 +3,5 @@ pub mod Marks
 pub mod Commands
 pub mod Keywords
 pub mod Parses
+pub mod Shown
+pub mod Stores

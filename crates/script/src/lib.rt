@@ -8,4 +8,7 @@ mod named;
 mod number;
 pub mod parse;
 mod part;
+pub mod report;
 mod said;
+pub mod show;
+pub mod store;
