@@ -4,3 +4,5 @@ pub mod Rows
 pub mod Says
 pub mod Texts
 pub mod Spaces
+pub mod Frees
+pub mod Trips

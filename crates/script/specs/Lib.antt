@@ -5,3 +5,4 @@ pub mod Keywords
 pub mod Parses
 pub mod Shown
 pub mod Stores
+pub mod Laws

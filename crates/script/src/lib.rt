@@ -2,6 +2,7 @@
 pub mod command;
 pub mod fault;
 mod keyword;
+pub mod laws;
 mod line;
 mod mark;
 mod named;
