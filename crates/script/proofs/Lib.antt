@@ -6,3 +6,4 @@ pub mod Texts
 pub mod Spaces
 pub mod Frees
 pub mod Trips
+pub mod Bounds
