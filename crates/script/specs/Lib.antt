@@ -3,3 +3,6 @@ pub mod Marks
 pub mod Commands
 pub mod Keywords
 pub mod Parses
+pub mod Shown
+pub mod Stores
+pub mod Laws

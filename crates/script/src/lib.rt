@@ -2,10 +2,14 @@
 pub mod command;
 pub mod fault;
 mod keyword;
+pub mod laws;
 mod line;
 mod mark;
 mod named;
 mod number;
 pub mod parse;
 mod part;
+pub mod report;
 mod said;
+pub mod show;
+pub mod store;
