@@ -13,7 +13,7 @@ pub record Bench : Type 0 where
   pub kept : List ℕ
 
 abbrev pub bench-of : Machine → Bench
-bench-of m = record { memory = vec-items (m .memory); ring = record { size = m .places; base = m .begins }; state = m .state; kept = vec-items (m .kept) }
+bench-of m = record { memory = vec-items (m .memory); ring = record { size = m .places; base = m .begins }; state = m .served ∷ m .stopped ∷ []; kept = vec-items (m .kept) }
 
 -- before the first command: no memory, no ring, a new device that keeps nothing
 abbrev pub start : Bench

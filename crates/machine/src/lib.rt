@@ -1,5 +1,8 @@
 // A machine that a script sets up and runs: guest memory, a ring, and a device.
+pub mod faults;
 pub mod halt;
 pub mod machine;
+pub mod print;
 pub mod refusal;
+pub mod run;
 pub mod step;

@@ -6,6 +6,7 @@ pub struct Machine {
     pub memory: Vec<u8>,
     pub places: u64,
     pub begins: u64,
-    pub state: [u32; 2],
+    pub served: u32,
+    pub stopped: u32,
     pub kept: Vec<u8>,
 }

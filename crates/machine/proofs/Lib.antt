@@ -1,0 +1,5 @@
+pub mod Sizes
+pub mod Prints
+pub mod Entering
+pub mod Steps
+pub mod Running
