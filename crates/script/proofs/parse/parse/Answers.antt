@@ -9,6 +9,7 @@ use Rattle.std.proofs.Told.{chosen}
 use Rattle.std.proofs.shelf.Lists.{map-push, nil-from-length}
 use Rattle.script.specs.Format.{lines, skipped, says, line}
 use Rattle.script.specs.Commands.{cmd-of, line-says}
+use Rattle.script.proofs.Bounds.{reads-sound}
 use Rattle.script.proofs.Texts.{line-skipped, line-said, lines-end}
 use Rattle.script.proofs.parse.parse.Needs as need
 use Rattle.script.proofs.parse.parse.Needs.{in-Nothing, in-Command·in-Continue-push}
@@ -45,4 +46,5 @@ loop-rest-again c =
 pub returns : need.returns
 returns c =
     let rest = c .loop-rest .rest .now in
-    sym (c .loop-rest .inv .0) ∙ lines-end _ (c .loop-rest .size) (c .loop-rest .number) (lines rest) (ap lines (nil-from-length rest (true-eqb _ 0 (c .loop-rest-test .ensures tt))))
+    let e = sym (c .loop-rest .inv .0) ∙ lines-end (map cmd-of (vec-items (c .loop-rest .commands))) (c .loop-rest .size) (c .loop-rest .number) (lines rest) (ap lines (nil-from-length rest (true-eqb _ 0 (c .loop-rest-test .ensures tt)))) in
+    record { read = e; sound = reads-sound (c .args .text .now) _ e }
