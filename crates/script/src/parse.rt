@@ -1,5 +1,4 @@
 // A whole script.
-ghost use Prim.Native.Nat.{_+_, _<_, _≤_};
 ghost use mathlib.Core.List.{map};
 ghost use mathlib.Core.Path.{_≡_};
 ghost use Rattle.std.specs.Of.Vec.{vec-items};
@@ -8,7 +7,6 @@ ghost use Rattle.script.specs.Format.{size-after};
 ghost use Rattle.script.specs.Commands.{cmd-of};
 ghost use Rattle.script.specs.Laws.{Sounds};
 ghost use Rattle.script.specs.Parses.{Parsed};
-use std::alloc::Global;
 use crate::command::Command;
 use crate::fault::Fault;
 use crate::fault::FaultFromAlloc;
@@ -17,6 +15,7 @@ use crate::line::read_line;
 use crate::mark::Mark;
 use crate::part::first_part;
 use crate::said::Said;
+use std::alloc::Global;
 
 impl Command {
     // How many bytes memory has after the command, if it had `size` before.

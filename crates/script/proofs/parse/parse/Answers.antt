@@ -23,25 +23,27 @@ loop-rest-again c =
     let l = c .first-part .result .0 .now in
     let after = c .first-part .result .1 .now in
     let cut = c .first-part .ensures .parts in
-    let inv = c .loop-rest .inv .0 in
-    (elim (c .match-branch-2 .came) [
-       in-Nothing w ↦
-         let s : skipped ≡ line size l = ap line-says (sym (w .in-Nothing .is)) ∙ c .in-Continue-read-line .ensures tt in
-         let e = line-skipped cs size n rest l after cut s in
-         let a = w .commands-is in
-         let b = w .size-is in
-         cc
-     | in-Command·in-Continue-push w ↦
-         let d = w .in-Command .command in
-         let s : says (cmd-of d) ≡ line size l = ap line-says (sym (w .in-Command .is)) ∙ c .in-Continue-read-line .ensures tt in
-         let e = line-said cs size n rest l after cut (cmd-of d) s in
-         let p = chosen _ _ _ _ (w .push .ensures .items) (ap isOk (w .in-Continue-push .was tt)) in
-         let m = map-push cmd-of (vec-items (c .loop-rest .commands)) d in
-         let a = w .commands-is in
-         let b = w .size-is in
-         let z = w .size-after-size .ensures in
-         cc
-     ], omega (arith, c .first-part .ensures .shorter))
+    let inv = c .loop-rest .inv .0 in (
+      elim (c .match-branch-2 .came) [
+        | in-Nothing w ↦
+            let s : skipped ≡ line size l = ap line-says (sym (w .in-Nothing .is)) ∙ c .in-Continue-read-line .ensures tt in
+            let e = line-skipped cs size n rest l after cut s in
+            let a = w .commands-is in
+            let b = w .size-is in
+            cc
+        | in-Command·in-Continue-push w ↦
+            let d = w .in-Command .command in
+            let s : says (cmd-of d) ≡ line size l = ap line-says (sym (w .in-Command .is)) ∙ c .in-Continue-read-line .ensures tt in
+            let e = line-said cs size n rest l after cut (cmd-of d) s in
+            let p = chosen _ _ _ _ (w .push .ensures .items) (ap isOk (w .in-Continue-push .was tt)) in
+            let m = map-push cmd-of (vec-items (c .loop-rest .commands)) d in
+            let a = w .commands-is in
+            let b = w .size-is in
+            let z = w .size-after-size .ensures in
+            cc
+      ],
+      omega (arith, c .first-part .ensures .shorter),
+    )
 
 pub returns : need.returns
 returns c =
