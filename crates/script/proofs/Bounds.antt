@@ -30,7 +30,7 @@ number-below : (w : List ℕ) → Of Below (number w)
 number-below [] = tt
 number-below (d ∷ ds) =
     cond-both (allDigits (d ∷ ds) && ltb (value 0 (d ∷ ds)) (2 ^ 64)) (Some (value 0 (d ∷ ds))) None (Of Below)
-      (λ e. ltb-true _ (2 ^ 64) (and-parts (allDigits (d ∷ ds)) (ltb (value 0 (d ∷ ds)) (2 ^ 64)) e .1)) (λ _. tt)
+    (λ e. ltb-true _ (2 ^ 64) (and-parts (allDigits (d ∷ ds)) (ltb (value 0 (d ∷ ds)) (2 ^ 64)) e .1)) (λ _. tt)
 
 only-below : (ws : List (List ℕ)) → Of Below (only ws)
 only-below [] = tt
@@ -47,7 +47,7 @@ number-at-below [] = tt
 number-at-below (n ∷ []) = tt
 number-at-below (n ∷ w ∷ ws) =
     cond-both (sameBytes w (codes "at")) (both (number n) (only ws)) None (Of (λ p. Below (p .0) × Below (p .1)))
-      (λ _. both-of Below Below (number n) (only ws) (number-below n) (only-below ws)) (λ _. tt)
+    (λ _. both-of Below Below (number n) (only ws) (number-below n) (only-below ws)) (λ _. tt)
 
 small-of : (o : Option ℕ) → Of (λ b. b < 256) (small o)
 small-of None = tt

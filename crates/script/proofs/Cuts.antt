@@ -19,8 +19,8 @@ split-first p (b ∷ []) h =
     elim (cases-bool (p b)) [ inl e ↦ rw e refl | inr e ↦ rw e refl ]
 split-first p (b ∷ c ∷ bs) h =
     elim (cases-bool (p b)) [
-      inl e ↦ rw e refl
-    | inr e ↦ let n = till p (c ∷ bs) in rw (e, add-one (n + 1), add-one n) (rw (add-one n) at (ap (onto b) (split-first p (c ∷ bs) (omega arith))))
+      | inl e ↦ rw e refl
+      | inr e ↦ let n = till p (c ∷ bs) in rw (e, add-one (n + 1), add-one n) (rw (add-one n) at (ap (onto b) (split-first p (c ∷ bs) (omega arith))))
     ]
 
 pub till-le : (p : ℕ → Bool) (xs : List ℕ) → till p xs ≤ length xs

@@ -28,14 +28,14 @@ after-is n [] h = rw (lt-ltb n (2 ^ 64) h) refl
 after-is n (d ∷ ds) h =
     let m = 10 * n + (d - 48) in
     elim (cases-bool (asciiDigit d)) [
-      inr e ↦ rw e refl
-    | inl e ↦
-        elim (cases-bool (ltb m (2 ^ 64))) [
-          inl f ↦ rw (e, f) (after-is m ds (ltb-true m (2 ^ 64) f))
-        | inr f ↦
-            let g : ltb (value m ds) (2 ^ 64) ≡ false = le-ltb (value m ds) (2 ^ 64) (omega (arith, ltb-false m (2 ^ 64) f, grows m ds)) in
-            rw (e, f) (rw (and-right (allDigits ds) (ltb (value m ds) (2 ^ 64)) g) refl)
-        ]
+      | inr e ↦ rw e refl
+      | inl e ↦
+          elim (cases-bool (ltb m (2 ^ 64))) [
+            | inl f ↦ rw (e, f) (after-is m ds (ltb-true m (2 ^ 64) f))
+            | inr f ↦
+                let g : ltb (value m ds) (2 ^ 64) ≡ false = le-ltb (value m ds) (2 ^ 64) (omega (arith, ltb-false m (2 ^ 64) f, grows m ds)) in
+                rw (e, f) (rw (and-right (allDigits ds) (ltb (value m ds) (2 ^ 64)) g) refl)
+          ]
     ]
 
 -- a word that is not empty is the number that its digits give

@@ -1,5 +1,4 @@
 -- What the code's commands stand for.
-use mathlib.Core.List.{List}
 use Rattle.std.specs.Of.Vec.{vec-items}
 use Rattle.script.specs.declared.command.Command.{Command}
 use Rattle.script.specs.declared.command.Command.the-variants.{Memory, Ring, Bytes, Kept, Serve, Anew, Piece}

@@ -12,6 +12,25 @@ use Rattle.std.specs.declared.result.Result.{Result}
 use Rattle.std.specs.declared.result.Result.the-variants.{Ok, Err}
 use Rattle.std.specs.shelf.Text.{allDigits, sameBytes}
 
+-- ## Commands
+
+-- what a script may ask for
+pub data Cmd : Type 0 where
+  -- a memory of n bytes, all 0
+  memory : (n : ℕ) → Cmd
+  -- the ring has so many places and begins there
+  ring : (size base : ℕ) → Cmd
+  -- the guest writes bytes from a place on
+  bytes-at : (at : ℕ) (bytes : List ℕ) → Cmd
+  -- the device keeps n bytes: 0, 1, 2 and on, modulo 256
+  kept : (n : ℕ) → Cmd
+  -- up to n servings
+  serve : (n : ℕ) → Cmd
+  -- the device is reset
+  anew : Cmd
+  -- the part of memory that descriptor n names
+  piece : (n : ℕ) → Cmd
+
 -- ## Lines and words
 
 -- a byte before the first part
@@ -102,24 +121,7 @@ row (w ∷ ws) = before (byte w) (row ws)
 abbrev pub address : List ℕ → Option ℕ
 address w = cond (eqb (getD w (length w - 1) 0) 58) (number (take (length w - 1) w)) None
 
--- ## Commands
-
--- what a script may ask for
-pub data Cmd : Type 0 where
-  -- a memory of n bytes, all 0
-  memory : (n : ℕ) → Cmd
-  -- the ring has so many places and begins there
-  ring : (size base : ℕ) → Cmd
-  -- the guest writes bytes from a place on
-  bytes-at : (at : ℕ) (bytes : List ℕ) → Cmd
-  -- the device keeps n bytes: 0, 1, 2 and on, modulo 256
-  kept : (n : ℕ) → Cmd
-  -- up to n servings
-  serve : (n : ℕ) → Cmd
-  -- the device is reset
-  anew : Cmd
-  -- the part of memory that descriptor n names
-  piece : (n : ℕ) → Cmd
+-- ## The command of a line
 
 -- nothing follows
 abbrev pub alone : Cmd → List (List ℕ) → Option Cmd
@@ -156,6 +158,7 @@ pub data Line : Type 0 where
   says : Cmd → Line
   unreadable : Line
 
+-- a command that was found, or none
 abbrev pub said : Option Cmd → Line
 said None = unreadable
 said (Some c) = says c

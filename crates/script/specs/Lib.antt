@@ -6,3 +6,4 @@ pub mod Parses
 pub mod Shown
 pub mod Stores
 pub mod Laws
+pub mod Examples

@@ -1,24 +1,22 @@
 // What one line of a script says.
-ghost use Prim.Native.Nat.{ℕ, _<_};
 ghost use lib.Dec.{eqb};
-ghost use lib.ListN.{length, getD};
-ghost use mathlib.Core.List.{_∷_, []};
+ghost use lib.ListN.{getD};
 ghost use mathlib.Core.Path.{_≡_};
 ghost use Rattle.std.specs.Of.Vec.{vec-items};
 ghost use Rattle.std.specs.Options.{mapped};
 ghost use Rattle.std.specs.Vec.{made};
 ghost use Rattle.std.specs.declared.option.Option.the-variants.{Some, None};
-ghost use Rattle.script.specs.Format.{words, byte as byte-of, row as row-of, laid as laid-of, bytes-in, both, address as address-of, only as only-of, alone, anew as anew-cmd, number-at as numbers-at, command as command-of, line as line-of};
+ghost use Rattle.script.specs.Format.{words, byte as byte-of, row as row-of, laid as laid-of, bytes-in, address as address-of, only as only-of, alone, anew as anew-cmd, number-at as numbers-at, command as command-of, line as line-of};
 ghost use Rattle.script.specs.Commands.{cmd-of, line-says};
 ghost use Rattle.script.specs.Keywords.{by-keyword};
-use std::alloc::AllocError;
-use std::alloc::Global;
 use crate::command::Command;
 use crate::keyword::Keyword;
 use crate::named::is;
 use crate::number::number;
 use crate::part::first_word;
 use crate::said::Said;
+use std::alloc::AllocError;
+use std::alloc::Global;
 
 // The number that a text writes with nothing else.
 fn only(text: &[u8]) -> Option<u64>

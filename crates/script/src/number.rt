@@ -1,5 +1,5 @@
 // Numbers in decimal digits.
-ghost use Prim.Native.Nat.{ℕ, _+_, _-_, _*_, _^_};
+ghost use Prim.Native.Nat.{_+_, _-_, _*_, _^_};
 ghost use lib.Dec.{ltb};
 ghost use mathlib.Core.Bool.{cond, _&&_};
 ghost use mathlib.Core.Path.{_≡_};

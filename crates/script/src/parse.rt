@@ -1,10 +1,12 @@
 // A whole script.
-ghost use Prim.Native.Nat.{_+_, _<_, _≤_};
+ghost use mathlib.Core.List.{map};
 ghost use mathlib.Core.Path.{_≡_};
+ghost use Rattle.std.specs.Of.Vec.{vec-items};
+ghost use Rattle.std.specs.Vec.{made};
 ghost use Rattle.script.specs.Format.{size-after};
 ghost use Rattle.script.specs.Commands.{cmd-of};
+ghost use Rattle.script.specs.Laws.{Sounds};
 ghost use Rattle.script.specs.Parses.{Parsed};
-use std::alloc::Global;
 use crate::command::Command;
 use crate::fault::Fault;
 use crate::fault::FaultFromAlloc;
@@ -13,6 +15,7 @@ use crate::line::read_line;
 use crate::mark::Mark;
 use crate::part::first_part;
 use crate::said::Said;
+use std::alloc::Global;
 
 impl Command {
     // How many bytes memory has after the command, if it had `size` before.
@@ -28,7 +31,8 @@ impl Command {
 
 // The commands of a script, or its first line that cannot be read.
 pub fn parse(heap: Global, text: &[u8]) -> Result<Vec<Command>, Fault>
-    ensures { λ r. ⌜ Parsed (now (text .entry)) r ⌝ }
+    ensures read { λ r. ⌜ Parsed (now (text .entry)) r ⌝ }
+    ensures sound { λ r. ⌜ made r (λ cs. Sounds 0 (map cmd-of (vec-items cs))) ⌝ }
 {
     let mut commands = Vec::new(heap);
     let mut size = 0;

@@ -7,9 +7,9 @@ ghost use Rattle.std.specs.Vec.{made};
 ghost use Rattle.std.specs.declared.option.Option.the-variants.{Some, None};
 ghost use Rattle.script.specs.Shown.{change, waiting as waiting-line, piece-of, refused as refused-line};
 ghost use Rattle.script.specs.Stores.{name-of};
-use std::fmt;
 use crate::show::write_bytes;
 use crate::store::Store;
+use std::fmt;
 
 // Writes that a byte changed: `memory 22: 0 -> 1`, `kept 16: 16 -> 7`.
 pub fn changed(out: &mut String, store: Store, at: u64, before: u8, after: u8) -> fmt::Result

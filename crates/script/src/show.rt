@@ -6,10 +6,10 @@ ghost use Rattle.std.specs.Vec.{made};
 ghost use Rattle.script.specs.Commands.{cmd-of};
 ghost use Rattle.script.specs.Format.{bytes-at};
 ghost use Rattle.script.specs.Shown.{spaced, shown};
+use crate::command::Command;
 use std::alloc::AllocError;
 use std::alloc::Global;
 use std::fmt;
-use crate::command::Command;
 
 // Writes bytes, each with a space before it.
 pub fn write_bytes(out: &mut String, bytes: &[u8]) -> fmt::Result

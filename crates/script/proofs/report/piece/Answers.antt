@@ -6,5 +6,5 @@ use Rattle.script.proofs.report.piece.Needs as need
 pub returns : need.returns
 returns c =
     made-weaker (c .writeln .result) _ _
-      (λ _ e. piece-written (string-bytes (c .args .out .now)) (c .args .bytes .now) (string-bytes (c .write .last .self)) (string-bytes (c .write-bytes .last .out)) (string-bytes (c .writeln .last .self)) (c .args .n) (c .in-Continue-write .ensures tt .bytes) (c .in-Continue-write-bytes .ensures tt) e)
-      (c .writeln .ensures .bytes)
+    (λ _ e. piece-written (string-bytes (c .args .out .now)) (c .args .bytes .now) (string-bytes (c .write .last .self)) (string-bytes (c .write-bytes .last .out)) (string-bytes (c .writeln .last .self)) (c .args .n) (c .in-Continue-write .ensures tt .bytes) (c .in-Continue-write-bytes .ensures tt) e)
+    (c .writeln .ensures .bytes)
