@@ -1,4 +1,5 @@
 // A machine that a script sets up and runs: guest memory, a ring, and a device.
+pub mod explain;
 pub mod faults;
 pub mod halt;
 pub mod machine;
