@@ -27,16 +27,16 @@ linked (suc f) t n m i ds e =
     let d = descriptor-at m (t + 8 * i) in
     let rest = chain-from f t n m (next-at m (t + 8 * i)) in
     cond-both (ltb i n) (cond (has-next d) (with-first d rest) (goes (d ∷ []))) bad
-      (λ c. c ≡ goes ds → Linked t n m i ds × (length ds ≤ suc f))
-      (λ l. cond-both (has-next d) (with-first d rest) (goes (d ∷ []))
-        (λ c. c ≡ goes ds → Linked t n m i ds × (length ds ≤ suc f))
-        (λ g q.
-          let w = with-first-goes d rest ds q in
-          let ih = linked f t n m (next-at m (t + 8 * i)) (w .0) (w .1) in
-          rw (w .2) (more (ltb-true i n l) g (ih .0), omega (arith, ih .1)))
-        (λ g q. let w : ds ≡ d ∷ [] = cc in rw w (last (ltb-true i n l) g, omega arith)))
-      (λ _ q. let z : _≡_ {A = ℕ} 0 1 = cc in absurd (omega arith))
-      e
+    (λ c. c ≡ goes ds → Linked t n m i ds × (length ds ≤ suc f))
+    (λ l. cond-both (has-next d) (with-first d rest) (goes (d ∷ []))
+    (λ c. c ≡ goes ds → Linked t n m i ds × (length ds ≤ suc f))
+    (λ g q.
+    let w = with-first-goes d rest ds q in
+    let ih = linked f t n m (next-at m (t + 8 * i)) (w .0) (w .1) in
+    rw (w .2) (more (ltb-true i n l) g (ih .0), omega (arith, ih .1)))
+    (λ g q. let w : ds ≡ d ∷ [] = cc in rw w (last (ltb-true i n l) g, omega arith)))
+    (λ _ q. let z : _≡_ {A = ℕ} 0 1 = cc in absurd (omega arith))
+    e
 
 unlinked : (f t n : ℕ) (m : List ℕ) {i : ℕ} {ds : List Descriptor} → Linked t n m i ds → length ds ≤ f → chain-from f t n m i ≡ goes ds
 unfolding chain-from
@@ -53,23 +53,24 @@ all-clear : (gs : List Region) (d : Descriptor) → clear gs d ≡ true → All-
 unfolding clear
 all-clear [] d h = tt
 all-clear (g ∷ gs) d h =
-    let p = and-parts (leb (d .addr + d .len) (g .from) || leb (g .to) (d .addr)) (clear gs d) h in
-    (elim (or-cases (leb (d .addr + d .len) (g .from)) (leb (g .to) (d .addr)) (p .0)) [
-        inl e ↦ inl (leb-true (d .addr + d .len) (g .from) e)
-      | inr e ↦ inr (leb-true (g .to) (d .addr) e)
+    let p = and-parts (leb (d .addr + d .len) (g .from) || leb (g .to) (d .addr)) (clear gs d) h in (
+      elim (or-cases (leb (d .addr + d .len) (g .from)) (leb (g .to) (d .addr)) (p .0)) [
+        | inl e ↦ inl (leb-true (d .addr + d .len) (g .from) e)
+        | inr e ↦ inr (leb-true (g .to) (d .addr) e)
       ],
-     all-clear gs d (p .1))
+      all-clear gs d (p .1),
+    )
 
 clear-from : (gs : List Region) (d : Descriptor) → All-clear gs d → clear gs d ≡ true
 unfolding clear
 clear-from [] d h = refl
 clear-from (g ∷ gs) d h =
     and-from (leb (d .addr + d .len) (g .from) || leb (g .to) (d .addr)) (clear gs d)
-      (elim (h .0) [
-          inl l ↦ or-left (leb (d .addr + d .len) (g .from)) (leb (g .to) (d .addr)) (le-leb (d .addr + d .len) (g .from) l)
-        | inr l ↦ or-right (leb (d .addr + d .len) (g .from)) (leb (g .to) (d .addr)) (le-leb (g .to) (d .addr) l)
-        ])
-      (clear-from gs d (h .1))
+    (elim (h .0) [
+      | inl l ↦ or-left (leb (d .addr + d .len) (g .from)) (leb (g .to) (d .addr)) (le-leb (d .addr + d .len) (g .from) l)
+      | inr l ↦ or-right (leb (d .addr + d .len) (g .from)) (leb (g .to) (d .addr)) (le-leb (g .to) (d .addr) l)
+    ])
+    (clear-from gs d (h .1))
 
 fit : (gs : List Region) (n : ℕ) (d : Descriptor) → fits gs n d ≡ true → Fit gs n d
 unfolding fits
@@ -85,12 +86,13 @@ pub all-fit : (gs : List Region) (n : ℕ) (w : Bool) (ds : List Descriptor) →
 unfolding usable
 all-fit gs n w [] h = tt
 all-fit gs n w (d ∷ ds) h =
-    let p = and-parts (fits gs n d) (cond (writable d) (usable gs n true ds) (not w && usable gs n w ds)) h in
-    (fit gs n d (p .0),
-     cond-both (writable d) (usable gs n true ds) (not w && usable gs n w ds) (λ v. v ≡ true → All-fit gs n ds)
-       (λ _ e. all-fit gs n true ds e)
-       (λ _ e. all-fit gs n w ds (and-parts (not w) (usable gs n w ds) e .1))
-       (p .1))
+    let p = and-parts (fits gs n d) (cond (writable d) (usable gs n true ds) (not w && usable gs n w ds)) h in (
+      fit gs n d (p .0),
+      cond-both (writable d) (usable gs n true ds) (not w && usable gs n w ds) (λ v. v ≡ true → All-fit gs n ds)
+          (λ _ e. all-fit gs n true ds e)
+          (λ _ e. all-fit gs n w ds (and-parts (not w) (usable gs n w ds) e .1))
+          (p .1),
+    )
 
 in-order : (gs : List Region) (n : ℕ) (w : Bool) (ds : List Descriptor) → usable gs n w ds ≡ true → (w ≡ true → All-writable ds) × In-order ds
 unfolding usable
@@ -98,26 +100,27 @@ in-order gs n w [] h = (λ _. tt, tt)
 in-order gs n w (d ∷ ds) h =
     let p = and-parts (fits gs n d) (cond (writable d) (usable gs n true ds) (not w && usable gs n w ds)) h in
     cond-both (writable d) (usable gs n true ds) (not w && usable gs n w ds) (λ v. v ≡ true → (w ≡ true → All-writable (d ∷ ds)) × In-order (d ∷ ds))
-      (λ y e. let ih = in-order gs n true ds e in (λ _. (y, ih .0 refl), (λ _. ih .0 refl, ih .1)))
-      (λ y e.
-        let q = and-parts (not w) (usable gs n w ds) e in
-        let ih = in-order gs n w ds (q .1) in
-        (λ t. absurd (both-ways w (not-true w (q .0)) t), (λ t. absurd (both-ways (writable d) y t), ih .1)))
-      (p .1)
+    (λ y e. let ih = in-order gs n true ds e in (λ _. (y, ih .0 refl), (λ _. ih .0 refl, ih .1)))
+    (λ y e.
+    let q = and-parts (not w) (usable gs n w ds) e in
+    let ih = in-order gs n w ds (q .1) in
+    (λ t. absurd (both-ways w (not-true w (q .0)) t), (λ t. absurd (both-ways (writable d) y t), ih .1)))
+    (p .1)
 
 usable-from : (gs : List Region) (n : ℕ) (w : Bool) (ds : List Descriptor) → All-fit gs n ds → (w ≡ true → All-writable ds) → In-order ds → usable gs n w ds ≡ true
 unfolding usable
 usable-from gs n w [] f a o = refl
 usable-from gs n w (d ∷ ds) f a o =
     and-from (fits gs n d) (cond (writable d) (usable gs n true ds) (not w && usable gs n w ds)) (fit-fits gs n d (f .0))
-      (cond-both (writable d) (usable gs n true ds) (not w && usable gs n w ds) (λ v. v ≡ true)
-        (λ y. usable-from gs n true ds (f .1) (λ _. o .0 y) (o .1))
-        (λ y. elim (cases-bool w) [
-            inl t ↦ absurd (both-ways (writable d) y (a t .0))
-          | inr t ↦ and-from (not w) (usable gs n w ds) (rw t) (usable-from gs n w ds (f .1) (λ u. absurd (both-ways w t u)) (o .1))
-          ]))
+    (cond-both (writable d) (usable gs n true ds) (not w && usable gs n w ds) (λ v. v ≡ true)
+    (λ y. usable-from gs n true ds (f .1) (λ _. o .0 y) (o .1))
+    (λ y. elim (cases-bool w) [
+      | inl t ↦ absurd (both-ways (writable d) y (a t .0))
+      | inr t ↦ and-from (not w) (usable gs n w ds) (rw t) (usable-from gs n w ds (f .1) (λ u. absurd (both-ways w t u)) (o .1))
+    ]))
 
 pub usable-means : Usable-means
-usable-means gs n ds =
-    (λ e. (all-fit gs n false ds e, in-order gs n false ds e .1),
-     λ p. usable-from gs n false ds (p .0) (λ t. absurd (both-ways false refl t)) (p .1))
+usable-means gs n ds = (
+  λ e. (all-fit gs n false ds e, in-order gs n false ds e .1),
+  λ p. usable-from gs n false ds (p .0) (λ t. absurd (both-ways false refl t)) (p .1),
+)

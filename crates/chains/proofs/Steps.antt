@@ -40,7 +40,6 @@ module _ {M : Type 0} (acts : Acts M) where
   -- a descriptor d was read, which left m₁, and was listed
   module _ (f t n : ℕ) (m m₁ : M) (i : ℕ) (d : Descriptor) (xs ys : List Descriptor) (p : 0 < f) (h : i < n)
       (e : d ≡ ends acts (descriptor-prog (t + 8 * i)) m) (e₁ : m₁ ≡ leaves acts (descriptor-prog (t + 8 * i)) m) (l : ys ≡ xs ++ d ∷ []) where
-
     read-ends : ends acts (chain-prog f t n i) m ≡ ends acts (link-prog (t + 8 * i) d (λ j. chain-prog (f - 1) t n j)) m₁
     read-ends = ap (λ q. ends acts q m) (one-more f t n i p h) ∙ ends-by acts (descriptor-prog (t + 8 * i)) (λ d. link-prog (t + 8 * i) d (λ j. chain-prog (f - 1) t n j)) m m₁ d e e₁
 

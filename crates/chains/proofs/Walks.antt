@@ -32,8 +32,8 @@ follows (suc f) t n i m =
     let p = t + 8 * i in
     let d = descriptor-at m p in
     either (ltb i n) _ _ bad m
-      (either (has-next d) (get pair (p + 6) (λ j. then (chain-prog f t n j) (λ w. ret (with-first d w)))) (with-first d (chain-from f t n m (next-at m p))) (goes (d ∷ [])) m
-        (first d (chain-prog f t n (next-at m p)) _ m (follows f t n (next-at m p) m)))
+    (either (has-next d) (get pair (p + 6) (λ j. then (chain-prog f t n j) (λ w. ret (with-first d w)))) (with-first d (chain-from f t n m (next-at m p))) (goes (d ∷ [])) m
+    (first d (chain-prog f t n (next-at m p)) _ m (follows f t n (next-at m p) m)))
 
 pub follows-plainly : Follows-plainly
 unfolding Finds

@@ -26,8 +26,8 @@ chain-from zero t n m i = bad
 chain-from (suc f) t n m i =
     cond (ltb i n)
     (cond (has-next (descriptor-at m (t + 8 * i)))
-      (with-first (descriptor-at m (t + 8 * i)) (chain-from f t n m (next-at m (t + 8 * i))))
-      (goes (descriptor-at m (t + 8 * i) ∷ [])))
+    (with-first (descriptor-at m (t + 8 * i)) (chain-from f t n m (next-at m (t + 8 * i))))
+    (goes (descriptor-at m (t + 8 * i) ∷ [])))
     bad
 
 -- a descriptor that was read at an address, and behind it the rest: which one follows is read only if one does

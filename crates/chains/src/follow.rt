@@ -5,10 +5,10 @@ ghost use mathlib.Core.Path.{_≡_};
 ghost use Rattle.vring.specs.Programs.{ends, leaves};
 ghost use Rattle.chains.specs.Descriptors.{descriptor-prog};
 ghost use Rattle.chains.specs.Chains.{chain-prog, listed, Follows};
-use vring::memory::GuestMemory;
 use crate::chain::Chain;
 use crate::descriptor::Descriptor;
 use crate::table::Table;
+use vring::memory::GuestMemory;
 
 impl Chain {
     // A snapshot of no descriptors.
@@ -59,7 +59,13 @@ fn read_descriptor<M: GuestMemory>(m: &mut M, at: usize) -> Descriptor
 }
 
 // The chain from descriptor `i` on, of at most `left`, listed behind what `out` lists; false where it is bad.
-pub fn follow<M: GuestMemory>(table: &Table, m: &mut M, i: usize, left: usize, out: &mut Chain) -> bool
+pub fn follow<M: GuestMemory>(
+    table: &Table,
+    m: &mut M,
+    i: usize,
+    left: usize,
+    out: &mut Chain,
+) -> bool
     requires { ⌜ now table .at + 8 * now table .count ≤ holds (now m) ⌝ ∗ ⌜ now out .len + left ≤ 64 ⌝ }
     ensures value { λ ok. ⌜ Follows (ends acts (chain-prog left (now (table .entry) .at) (now (table .entry) .count) i) (now (m .entry))) ok (listed (now (out .entry))) (listed (now (out .exit))) ⌝ }
     ensures then { λ _. ⌜ now (m .exit) ≡ leaves acts (chain-prog left (now (table .entry) .at) (now (table .entry) .count) i) (now (m .entry)) ⌝ }
@@ -72,7 +78,13 @@ pub fn follow<M: GuestMemory>(table: &Table, m: &mut M, i: usize, left: usize, o
 }
 
 // The same where the table has a descriptor `i` and one may be taken.
-fn take_descriptor<M: GuestMemory>(table: &Table, m: &mut M, i: usize, left: usize, out: &mut Chain) -> bool
+fn take_descriptor<M: GuestMemory>(
+    table: &Table,
+    m: &mut M,
+    i: usize,
+    left: usize,
+    out: &mut Chain,
+) -> bool
     requires { ⌜ now table .at + 8 * now table .count ≤ holds (now m) ⌝ ∗ ⌜ now out .len + left ≤ 64 ⌝ ∗ ⌜ 0 < left ⌝ ∗ ⌜ i < now table .count ⌝ }
     ensures value { λ ok. ⌜ Follows (ends acts (chain-prog left (now (table .entry) .at) (now (table .entry) .count) i) (now (m .entry))) ok (listed (now (out .entry))) (listed (now (out .exit))) ⌝ }
     ensures then { λ _. ⌜ now (m .exit) ≡ leaves acts (chain-prog left (now (table .entry) .at) (now (table .entry) .count) i) (now (m .entry)) ⌝ }

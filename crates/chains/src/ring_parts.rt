@@ -3,9 +3,9 @@ ghost use Prim.Native.Nat.{_+_, _*_};
 ghost use mathlib.Core.Path.{_≡_};
 ghost use Rattle.vring.specs.Rings.{ends-at};
 ghost use Rattle.vring.specs.Layouts.{ring-of};
-use vring::layout::Layout;
 use crate::region::Region;
 use crate::table::Table;
+use vring::layout::Layout;
 
 // The table of the ring's descriptors.
 pub fn table_of(layout: &Layout) -> Table

@@ -66,26 +66,26 @@ pub refuses : Refuses
 unfolding response kept-after
 refuses k q h =
     elim (cases-bool (is-read k q)) [
-      inl e ↦ absurd (h (known-read k q (reading k q e)))
-    | inr e ↦
-        elim (cases-bool (is-write k q)) [
-          inl f ↦ absurd (h (known-write k q (writing k q f)))
-        | inr f ↦ rw (e, f) (refl, refl)
-        ]
+      | inl e ↦ absurd (h (known-read k q (reading k q e)))
+      | inr e ↦
+          elim (cases-bool (is-write k q)) [
+            | inl f ↦ absurd (h (known-write k q (writing k q f)))
+            | inr f ↦ rw (e, f) (refl, refl)
+          ]
     ]
 
 pub kept-length : (k q : List ℕ) → length (kept-after k q) ≡ length k
 unfolding kept-after
 kept-length k q =
     cond-both (is-write k q) (set-bytes k (block-at q) (drop 2 q)) k (λ v. length v ≡ length k)
-      (λ e. set-length k (block-at q) (drop 2 q) (put-inside k q (writing k q e))) (λ _. refl)
+    (λ e. set-length k (block-at q) (drop 2 q) (put-inside k q (writing k q e))) (λ _. refl)
 
 kept-where : (k q : List ℕ) (a : ℕ) → (getD (kept-after k q) a 0 ≡ getD k a 0) ⊎ ((block-at q ≤ a) × (a < block-at q + 16))
 unfolding kept-after
 kept-where k q a =
     cond-both (is-write k q) (set-bytes k (block-at q) (drop 2 q)) k (λ v. (getD v a 0 ≡ getD k a 0) ⊎ ((block-at q ≤ a) × (a < block-at q + 16)))
-      (λ e. let w = writing k q e in elim (set-where k (block-at q) (drop 2 q) a (put-inside k q w)) [ inl s ↦ inl s | inr s ↦ inr (s .0, omega (arith, s .1, w .long, length-drop 2 q)) ])
-      (λ _. inl refl)
+    (λ e. let w = writing k q e in elim (set-where k (block-at q) (drop 2 q) a (put-inside k q w)) [ inl s ↦ inl s | inr s ↦ inr (s .0, omega (arith, s .1, w .long, length-drop 2 q)) ])
+    (λ _. inl refl)
 
 pub keeps : Keeps
 keeps k q = (kept-length k q, kept-where k q)
@@ -97,12 +97,12 @@ known-short k _ (write b xs e h) = omega arith
 pub first-bytes : First-bytes
 first-bytes k q =
     elim (cases-lt 19 (length q)) [
-      inl l ↦
-        let n : length (take 19 q) ≡ 19 = length-take-le 19 q (omega arith) in
-        let a = refuses k (take 19 q) (λ w. omega (arith, known-short k (take 19 q) w)) in
-        let b = refuses k q (λ w. omega (arith, known-short k q w)) in
-        (a .0 ∙ sym (b .0), a .1 ∙ sym (b .1))
-    | inr g ↦ rw (take-all 19 q g) (refl, refl)
+      | inl l ↦
+          let n : length (take 19 q) ≡ 19 = length-take-le 19 q (omega arith) in
+          let a = refuses k (take 19 q) (λ w. omega (arith, known-short k (take 19 q) w)) in
+          let b = refuses k q (λ w. omega (arith, known-short k q w)) in
+          (a .0 ∙ sym (b .0), a .1 ∙ sym (b .1))
+      | inr g ↦ rw (take-all 19 q g) (refl, refl)
     ]
 
 -- ## As the code tests it
@@ -111,16 +111,16 @@ module _ (k bytes : List ℕ) (len : ℕ) (h : len ≤ length bytes) where
   unfolding is-read
   read-test =
       elim (cases-eq len 2) [
-        inl e ↦ rw (length-take-le len bytes h) (rw e (rw (getD-take 2 bytes 0 0 (omega arith), getD-take 2 bytes 1 0 (omega arith)) refl))
-      | inr n ↦ rw (length-take-le len bytes h) (rw (ne-eqb len 2 n) refl)
+        | inl e ↦ rw (length-take-le len bytes h) (rw e (rw (getD-take 2 bytes 0 0 (omega arith), getD-take 2 bytes 1 0 (omega arith)) refl))
+        | inr n ↦ rw (length-take-le len bytes h) (rw (ne-eqb len 2 n) refl)
       ]
 
   pub write-test : is-write k (take len bytes) ≡ (eqb len 18 && (eqb (getD bytes 0 0) 1 && leb (16 * getD bytes 1 0 + 16) (length k)))
   unfolding is-write
   write-test =
       elim (cases-eq len 18) [
-        inl e ↦ rw (length-take-le len bytes h) (rw e (rw (getD-take 18 bytes 0 0 (omega arith), getD-take 18 bytes 1 0 (omega arith)) refl))
-      | inr n ↦ rw (length-take-le len bytes h) (rw (ne-eqb len 18 n) refl)
+        | inl e ↦ rw (length-take-le len bytes h) (rw e (rw (getD-take 18 bytes 0 0 (omega arith), getD-take 18 bytes 1 0 (omega arith)) refl))
+        | inr n ↦ rw (length-take-le len bytes h) (rw (ne-eqb len 18 n) refl)
       ]
 
   block-same : 2 ≤ len → block-at (take len bytes) ≡ 16 * getD bytes 1 0
@@ -129,8 +129,8 @@ module _ (k bytes : List ℕ) (len : ℕ) (h : len ≤ length bytes) where
   not-both : is-read k (take len bytes) ≡ true → is-write k (take len bytes) ≡ false
   not-both r =
       elim (cases-bool (is-write k (take len bytes))) [
-        inl w ↦ absurd (omega (arith, reading k (take len bytes) r .long, writing k (take len bytes) w .long))
-      | inr w ↦ w
+        | inl w ↦ absurd (omega (arith, reading k (take len bytes) r .long, writing k (take len bytes) w .long))
+        | inr w ↦ w
       ]
 
   pub read-found : is-read k (take len bytes) ≡ true →

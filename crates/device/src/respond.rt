@@ -6,8 +6,8 @@ ghost use mathlib.Core.Path.{_≡_};
 ghost use Rattle.transfer.specs.Requests.{held};
 ghost use Rattle.device.specs.Device.{is-read, is-write, response, kept-after};
 ghost use Rattle.device.specs.Responds.{sent};
-use transfer::request::Request;
 use crate::response::Response;
+use transfer::request::Request;
 
 impl Response {
     // A status alone.

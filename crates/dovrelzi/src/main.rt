@@ -25,14 +25,29 @@ impl From<io::Error> for Failure as FailureFromIo {
 // What the program takes and prints.
 fn usage(rt: &LibcRuntime) -> io::Result<()> {
     println!(rt, "usage: dovrelzi [FILE]")?;
-    println!(rt, "Runs the script in FILE, or on standard input, one command a line:")?;
+    println!(
+        rt,
+        "Runs the script in FILE, or on standard input, one command a line:"
+    )?;
     println!(rt, "  memory 65      a memory of 65 bytes, all 0")?;
     println!(rt, "  ring 2 at 0    the ring has 2 places and begins at 0")?;
-    println!(rt, "  bytes 40: 0 1  the guest writes these bytes from 40 on")?;
-    println!(rt, "  kept 32        the device keeps 32 bytes: 0, 1, 2 and on, modulo 256")?;
-    println!(rt, "  serve 5        up to five servings; prints what changed, and what still waits")?;
+    println!(
+        rt,
+        "  bytes 40: 0 1  the guest writes these bytes from 40 on"
+    )?;
+    println!(
+        rt,
+        "  kept 32        the device keeps 32 bytes: 0, 1, 2 and on, modulo 256"
+    )?;
+    println!(
+        rt,
+        "  serve 5        up to five servings; prints what changed, and what still waits"
+    )?;
     println!(rt, "  anew           the device is reset")?;
-    println!(rt, "  piece 1        prints the part of memory that descriptor 1 names")?;
+    println!(
+        rt,
+        "  piece 1        prints the part of memory that descriptor 1 names"
+    )?;
     println!(rt, "Empty lines and lines that begin with # are skipped.")
 }
 

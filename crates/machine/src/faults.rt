@@ -80,7 +80,11 @@ impl Refusal {
             Refusal::Places => 0,
             Refusal::RingOutside => 1,
             Refusal::MemoryTooLong => 2,
-            Refusal::State(n) | Refusal::Kept(n) | Refusal::Times(n) | Refusal::Line(n) | Refusal::Outside(n) => *n,
+            Refusal::State(n)
+            | Refusal::Kept(n)
+            | Refusal::Times(n)
+            | Refusal::Line(n)
+            | Refusal::Outside(n) => *n,
         }
     }
 }

@@ -1,9 +1,9 @@
 // Why a script's run ended early.
 ghost use mathlib.Core.Path.{_≡_};
 ghost use Rattle.machine.specs.declared.halt.Halt.the-variants.{NoMemory};
+use crate::refusal::Refusal;
 use std::alloc::AllocError;
 use std::fmt;
-use crate::refusal::Refusal;
 
 #[derive(Drop)]
 pub enum Halt {

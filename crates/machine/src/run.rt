@@ -5,14 +5,14 @@ ghost use Rattle.std.specs.Of.String.{string-bytes};
 ghost use Rattle.script.specs.Commands.{cmd-of};
 ghost use Rattle.machine.specs.Bench.{bench-of, start};
 ghost use Rattle.machine.specs.Runs.{run, play, Told, Ended, Runs};
+use crate::halt::Halt;
+use crate::machine::Machine;
+use crate::refusal::Refusal;
 use script::command::Command;
 use script::fault::Fault;
 use script::parse::parse;
 use script::report;
 use std::alloc::Global;
-use crate::halt::Halt;
-use crate::machine::Machine;
-use crate::refusal::Refusal;
 
 // Writes the refusal's line, with which a run ends.
 fn refuse(refusal: Refusal, out: &mut String) -> Halt

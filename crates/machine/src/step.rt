@@ -11,18 +11,22 @@ ghost use Rattle.script.specs.Format.{memory as a-memory, bytes-at, kept as som
 ghost use Rattle.machine.specs.Bench.{bench-of};
 ghost use Rattle.machine.specs.Steps.{counted, step};
 ghost use Rattle.machine.specs.Runs.{Steps};
-use script::command::Command;
-use script::store::Store;
-use serving::done::Done;
-use serving::entries::{begin_anew, piece, serve};
-use std::alloc::AllocError;
-use std::alloc::Global;
 use crate::halt::Halt;
 use crate::halt::HaltFromAlloc;
 use crate::halt::HaltFromFmt;
 use crate::machine::Machine;
-use crate::print::{write_answer, write_changes, write_part};
+use crate::print::write_answer;
+use crate::print::write_changes;
+use crate::print::write_part;
 use crate::refusal::Refusal;
+use script::command::Command;
+use script::store::Store;
+use serving::done::Done;
+use serving::entries::begin_anew;
+use serving::entries::piece;
+use serving::entries::serve;
+use std::alloc::AllocError;
+use std::alloc::Global;
 
 // The bytes 0, 1, 2 and on, modulo 256, `n` of them.
 fn count_up(heap: Global, n: u64) -> Result<Vec<u8>, AllocError>
@@ -89,7 +93,14 @@ impl Machine {
         ensures kept { λ _. ⌜ vec-len (now (self .exit) .kept) ≡ vec-len (now (self .entry) .kept) ⌝ }
     {
         let mut state = [self.served, self.stopped];
-        let done = serve(self.places, self.begins, &mut self.memory, &mut state, &mut self.kept, times);
+        let done = serve(
+            self.places,
+            self.begins,
+            &mut self.memory,
+            &mut state,
+            &mut self.kept,
+            times,
+        );
         self.served = state[0];
         self.stopped = state[1];
         done

@@ -68,17 +68,18 @@ unfolding take-prog look-chain
 finds-take r h bad m = finds-ret halt m refl tt
 finds-take r h (goes ds) m =
     finds-cond (usable (regions r) (length m) false ds) (then (request-prog 19 ds) (λ q. ret (job h ds q))) (ret halt) (job h ds (request m ds)) halt m
-      (λ u. finds-job h ds m (within-all (regions r) (length m) ds (all-fit (regions r) (length m) false ds u)))
-      (λ _. finds-ret halt m refl tt)
+    (λ u. finds-job h ds m (within-all (regions r) (length m) ds (all-fit (regions r) (length m) false ds u)))
+    (λ _. finds-ret halt m refl tt)
 
 -- a chain that was followed
 finds-walk : (f t n h : ℕ) (k : Walk → Prog Look) (l : Walk → Look) (m : List ℕ) → ((w : Walk) → Finds (k w) (l w) m) → Finds (then (chain-prog f t n h) k) (l (chain-from f t n m h)) m
 unfolding Finds
 finds-walk f t n h k l m g =
-    let w = follows-plainly f t n h m in let b = g (chain-from f t n m h) in
-    (ends-by plain (chain-prog f t n h) k m m (chain-from f t n m h) (sym (w .0)) (sym (w .1)) ∙ b .0,
-     leaves-by plain (chain-prog f t n h) k m m (chain-from f t n m h) (sym (w .0)) (sym (w .1)) ∙ b .1,
-     b .2)
+    let w = follows-plainly f t n h m in let b = g (chain-from f t n m h) in (
+      ends-by plain (chain-prog f t n h) k m m (chain-from f t n m h) (sym (w .0)) (sym (w .1)) ∙ b .0,
+      leaves-by plain (chain-prog f t n h) k m m (chain-from f t n m h) (sym (w .0)) (sym (w .1)) ∙ b .1,
+      b .2,
+    )
 
 -- a number that was read
 finds-get : (a : ℕ) (k : ℕ → Prog Look) (l : Look) (m : List ℕ) → Finds (k (word m a)) l m → Finds (get pair a k) l m
@@ -90,16 +91,16 @@ unfolding next-prog offer head chain
 finds-next r s m =
     let h = word m (head-at r s) in
     finds-get (head-at r s) (λ i. then (chain-prog (r .size) (r .base) (r .size) i) (λ w. take-prog r (length m) i w)) _ m
-      (finds-walk (r .size) (r .base) (r .size) h (λ w. take-prog r (length m) h w) (look-chain r m h) m (λ w. finds-take r h w m))
+    (finds-walk (r .size) (r .base) (r .size) h (λ w. take-prog r (length m) h w) (look-chain r m h) m (λ w. finds-take r h w m))
 
 finds-look : (r : Ring) (s : ℕ) (m : List ℕ) → Finds (look-prog r (length m) s) (look r m s) m
 unfolding look-prog look pending
 finds-look r s m =
     let p = pending-by (word m (available-at r)) s in
     finds-get (available-at r) (λ c. cond (eqb (pending-by c s) 0) (ret nothing) (cond (leb (pending-by c s) (r .size)) (next-prog r (length m) s) (ret halt))) _ m
-      (finds-cond (eqb p 0) (ret nothing) (cond (leb p (r .size)) (next-prog r (length m) s) (ret halt)) nothing (cond (leb p (r .size)) (offer r m s) halt) m
-        (λ _. finds-ret nothing m refl tt)
-        (λ _. finds-cond (leb p (r .size)) (next-prog r (length m) s) (ret halt) (offer r m s) halt m (λ _. finds-next r s m) (λ _. finds-ret halt m refl tt)))
+    (finds-cond (eqb p 0) (ret nothing) (cond (leb p (r .size)) (next-prog r (length m) s) (ret halt)) nothing (cond (leb p (r .size)) (offer r m s) halt) m
+    (λ _. finds-ret nothing m refl tt)
+    (λ _. finds-cond (leb p (r .size)) (next-prog r (length m) s) (ret halt) (offer r m s) halt m (λ _. finds-next r s m) (λ _. finds-ret halt m refl tt)))
 
 -- ## A turn
 -- whether a look found a chain to be served
@@ -120,10 +121,11 @@ acts-alone r b (job h ds q) p f i =
     let d = b .device in let m = b .memory in
     let same = first-bytes (d .kept) q in
     let fin = finish-prog r (d .served) h ds (cut (d .kept) ds (take 19 q)) in
-    let k = λ (u : Unit {0}). ret (turned true (device-after d (take 19 q))) in
-    (ends-then plain fin k m ∙ ap {B = Turn} (λ x. turned true (record { kept = x; served = device-after d q .served; stopped = false })) (same .1),
-     leaves-then plain fin k m
-     ∙ (finishes-plainly r (d .served) h ds (cut (d .kept) ds (take 19 q)) m p f i ∙ ap (λ x. finished r (d .served) h ds (take (capacity ds) x) m) (same .0)))
+    let k = λ (u : Unit {0}). ret (turned true (device-after d (take 19 q))) in (
+      ends-then plain fin k m ∙ ap {B = Turn} (λ x. turned true (record { kept = x; served = device-after d q .served; stopped = false })) (same .1),
+      leaves-then plain fin k m
+          ∙ (finishes-plainly r (d .served) h ds (cut (d .kept) ds (take 19 q)) m p f i ∙ ap (λ x. finished r (d .served) h ds (take (capacity ds) x) m) (same .0)),
+    )
 
 -- a turn of a device that has not stopped
 turns-alone : (r : Ring) (b : State) → 0 < r .size → ends-at r ≤ length (b .memory) → b .device .stopped ≡ false →
@@ -134,9 +136,10 @@ turns-alone r b p f s =
     let looks = look-prog r (length m) (d .served) in let k = λ (x : Look). act-prog r d x in
     let found = finds-look r (d .served) m in
     let e = turn-looks plain r (length m) d m s in
-    let a = acts-alone r b l p f (found .2) in
-    (ap (λ q. ends plain q m) e ∙ (ends-by plain looks k m m (first-of l) (sym (found .0)) (sym (found .1)) ∙ a .0),
-     ap (λ q. leaves plain q m) e ∙ (leaves-by plain looks k m m (first-of l) (sym (found .0)) (sym (found .1)) ∙ a .1))
+    let a = acts-alone r b l p f (found .2) in (
+      ap (λ q. ends plain q m) e ∙ (ends-by plain looks k m m (first-of l) (sym (found .0)) (sym (found .1)) ∙ a .0),
+      ap (λ q. leaves plain q m) e ∙ (leaves-by plain looks k m m (first-of l) (sym (found .0)) (sym (found .1)) ∙ a .1),
+    )
 
 -- ## Many
 -- a program of servings ends in the state x
@@ -184,6 +187,6 @@ runs-alone zero r b h = none-alone r b
 runs-alone (suc f) r b h =
     let d = b .device in let m = b .memory in let l = look r m (d .served) in let st = ring-stands r b h in
     elim (cases-bool (d .stopped)) [
-      inl s ↦ let t = turn-stopped plain r (length m) d m s in rests f r b b (t .0, sym (t .1)) (stays-stopped r b (suc f) s)
-    | inr s ↦ by-look f r b h s (runs-alone f r (serve r b) (serve-sound r b h)) l refl (turns-alone r b (st .some) (st .within) s)
+      | inl s ↦ let t = turn-stopped plain r (length m) d m s in rests f r b b (t .0, sym (t .1)) (stays-stopped r b (suc f) s)
+      | inr s ↦ by-look f r b h s (runs-alone f r (serve r b) (serve-sound r b h)) l refl (turns-alone r b (st .some) (st .within) s)
     ]

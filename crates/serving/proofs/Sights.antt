@@ -62,9 +62,10 @@ module _ {M : Type 0} (acts : Acts M) (r : Ring) (n s h : ℕ) (m m₁ m₂ : M)
       q ≡ ends acts (request-prog 19 ds) m₂ → m₃ ≡ leaves acts (request-prog 19 ds) m₂ →
       (ends acts (next-prog r n s) m ≡ job h ds q) × (m₃ ≡ leaves acts (next-prog r n s) m)
   unfolding take-prog
-  next-ready ds q m₃ b u g g₁ =
-      (next-ends ∙ rw (b, u) (ends-by acts (request-prog 19 ds) (λ x. ret (job h ds x)) m₂ m₃ q g g₁),
-       sym (next-leaves ∙ rw (b, u) (leaves-by acts (request-prog 19 ds) (λ x. ret (job h ds x)) m₂ m₃ q g g₁)))
+  next-ready ds q m₃ b u g g₁ = (
+    next-ends ∙ rw (b, u) (ends-by acts (request-prog 19 ds) (λ x. ret (job h ds x)) m₂ m₃ q g g₁),
+    sym (next-leaves ∙ rw (b, u) (leaves-by acts (request-prog 19 ds) (λ x. ret (job h ds x)) m₂ m₃ q g g₁)),
+  )
 
 module _ {M : Type 0} (acts : Acts M) (r : Ring) (n s c : ℕ) (m m₁ : M) (e : c ≡ acts .reads m pair (available-at r)) (e₁ : m₁ ≡ acts .after m pair (available-at r)) where
   -- the available count was read

@@ -10,15 +10,15 @@ ghost use Rattle.vring.specs.Layouts.{ring-of};
 ghost use Rattle.device.specs.Responds.{device-of};
 ghost use Rattle.model.specs.Promises.{Sound};
 ghost use Rattle.serving.specs.Entries.{state-ok, device-in, state-in, numbers-of, refusal, Serve-says, Serves, Promised, Anew-says, part};
+use crate::done::Done;
+use crate::job::Job;
+use crate::turn::run;
 use device::progress::Progress;
 use vring::layout::Layout;
 use vring::memory::GuestMemory;
 use vring::plain::Plain;
 use vring::plain_memory::PlainMemory;
 use vring::words::word_at;
-use crate::done::Done;
-use crate::job::Job;
-use crate::turn::run;
 
 // The state that two numbers say, if they say one.
 fn read_state(state: &[u32]) -> Option<Progress>
@@ -43,7 +43,13 @@ fn write_state(state: &mut [u32], progress: &Progress)
 }
 
 // At most `times` servings of memory as it stands, from one state to the next, and what is answered then.
-fn serve_plain(layout: &Layout, memory: &mut [u8], progress: &mut Progress, kept: &mut [u8], times: u64) -> Done
+fn serve_plain(
+    layout: &Layout,
+    memory: &mut [u8],
+    progress: &mut Progress,
+    kept: &mut [u8],
+    times: u64,
+) -> Done
     requires { ⌜ Sound (ring-of (now layout)) (record { memory = now memory; device = device-of (now progress) (now kept) }) ⌝ }
     ensures { λ d. ⌜ Serves (ring-of (now (layout .entry))) (record { memory = now (memory .entry); device = device-of (now (progress .entry)) (now (kept .entry)) }) times d (now (memory .exit)) (numbers-of (device-of (now (progress .exit)) (now (kept .exit)))) (now (kept .exit)) ⌝ }
 {
@@ -53,11 +59,21 @@ fn serve_plain(layout: &Layout, memory: &mut [u8], progress: &mut Progress, kept
     if progress.stopped {
         return Done::Stopped;
     }
-    Done::Served(m.number(layout.available_at()).wrapping_sub(progress.served) as u64)
+    Done::Served(
+        m.number(layout.available_at())
+            .wrapping_sub(progress.served) as u64,
+    )
 }
 
 // Serves the chains of a ring of `places` descriptors that begins at `begins`, at most `times` of them.
-pub fn serve(places: u64, begins: u64, memory: &mut [u8], state: &mut [u32], kept: &mut [u8], times: u64) -> Done
+pub fn serve(
+    places: u64,
+    begins: u64,
+    memory: &mut [u8],
+    state: &mut [u32],
+    kept: &mut [u8],
+    times: u64,
+) -> Done
     ensures does { λ d. ⌜ Serve-says (refusal (record { size = places; base = begins }) (now (memory .entry)) (now (state .entry)) (now (kept .entry)) times) (record { size = places; base = begins }) (now (memory .entry)) (now (state .entry)) (now (kept .entry)) times d (now (memory .exit)) (now (state .exit)) (now (kept .exit)) ⌝ }
     ensures promises { λ d. ⌜ (refusal (record { size = places; base = begins }) (now (memory .entry)) (now (state .entry)) (now (kept .entry)) times ≡ 0 → Promised (record { size = places; base = begins }) (state-in (now (memory .entry)) (now (state .entry)) (now (kept .entry))) times d (state-in (now (memory .exit)) (now (state .exit)) (now (kept .exit)))) ⌝ }
 {

@@ -9,12 +9,14 @@ ghost use Rattle.transfer.specs.Responses.{Within};
 ghost use Rattle.serving.specs.declared.job.Seen.the-variants.{Ready};
 ghost use Rattle.serving.specs.Turns.{look-prog, next-prog};
 ghost use Rattle.serving.specs.Sees.{Sees};
+use crate::job::Job;
+use crate::job::Seen;
 use chains::follow::follow;
-use chains::ring_parts::{region_of, table_of};
+use chains::ring_parts::region_of;
+use chains::ring_parts::table_of;
 use transfer::gather::gather;
 use vring::layout::Layout;
 use vring::memory::GuestMemory;
-use crate::job::{Job, Seen};
 
 // What a serving is to do, of a device that has served so many.
 pub fn look<M: GuestMemory>(layout: &Layout, m: &mut M, served: u16, job: &mut Job) -> Seen
@@ -44,7 +46,13 @@ fn take_next<M: GuestMemory>(layout: &Layout, m: &mut M, served: u16, job: &mut 
 {
     job.head = m.number(layout.head_at(served));
     job.chain.clear();
-    let good = follow(&table_of(layout), m, job.head as usize, layout.size, &mut job.chain);
+    let good = follow(
+        &table_of(layout),
+        m,
+        job.head as usize,
+        layout.size,
+        &mut job.chain,
+    );
     if !good || !job.chain.is_usable(&[region_of(layout)], m.len()) {
         return Seen::Halt;
     }

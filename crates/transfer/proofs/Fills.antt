@@ -29,12 +29,12 @@ module _ {M : Type 0} (acts : Acts M) (ds : List Descriptor) (i : ℕ) (d : Desc
 pub cut : (len u : ℕ) (a : List ℕ) → let n = min len (length a - u) in (take n (drop u a) ≡ take len (drop u a)) × (drop (u + n) a ≡ drop len (drop u a))
 cut len u a =
     elim (cases-lt len (length a - u)) [
-      inl e ↦ let k : min len (length a - u) ≡ len = omega arith in rw k (refl, sym (drop-drop len u a))
-    | inr e ↦
-        let k : min len (length a - u) ≡ length a - u = omega arith in
-        let l : length (drop u a) ≤ len = rw length-drop (omega arith) in
-        let j : length (drop u a) ≤ length a - u = rw length-drop (omega arith) in
-        rw k (take-all (length a - u) (drop u a) j ∙ sym (take-all len (drop u a) l), sym (drop-drop (length a - u) u a) ∙ (drop-all (length a - u) (drop u a) j ∙ sym (drop-all len (drop u a) l)))
+      | inl e ↦ let k : min len (length a - u) ≡ len = omega arith in rw k (refl, sym (drop-drop len u a))
+      | inr e ↦
+          let k : min len (length a - u) ≡ length a - u = omega arith in
+          let l : length (drop u a) ≤ len = rw length-drop (omega arith) in
+          let j : length (drop u a) ≤ length a - u = rw length-drop (omega arith) in
+          rw k (take-all (length a - u) (drop u a) j ∙ sym (take-all len (drop u a) l), sym (drop-drop (length a - u) u a) ∙ (drop-all (length a - u) (drop u a) j ∙ sym (drop-all len (drop u a) l)))
     ]
 
 -- the capacity of what is left

@@ -40,6 +40,7 @@ module _ {M : Type 0} (acts : Acts M) where
     gather-read m₁ k w e e₁ =
         let p = get-bytes k (getD ds i d .addr) in let rest = request-prog (n - k) (drop (i + 1) ds) in let xs = ends acts p m in
         let j = λ (ys : List ℕ). then rest (λ zs. ret (ys ++ zs)) in
-        let t : request-prog n (getD ds i d ∷ drop (i + 1) ds) ≡ then p j = rw w (rw e refl) in
-        (at-drop-more (λ qs. ends acts (request-prog n qs) m) ds i d h ∙ (ap (λ q. ends acts q m) t ∙ (ends-by acts p j m m₁ xs refl e₁ ∙ ends-then acts rest (λ zs. ret (xs ++ zs)) m₁)),
-         at-drop-more (λ qs. leaves acts (request-prog n qs) m) ds i d h ∙ (ap (λ q. leaves acts q m) t ∙ (leaves-by acts p j m m₁ xs refl e₁ ∙ leaves-then acts rest (λ zs. ret (xs ++ zs)) m₁)))
+        let t : request-prog n (getD ds i d ∷ drop (i + 1) ds) ≡ then p j = rw w (rw e refl) in (
+          at-drop-more (λ qs. ends acts (request-prog n qs) m) ds i d h ∙ (ap (λ q. ends acts q m) t ∙ (ends-by acts p j m m₁ xs refl e₁ ∙ ends-then acts rest (λ zs. ret (xs ++ zs)) m₁)),
+          at-drop-more (λ qs. leaves acts (request-prog n qs) m) ds i d h ∙ (ap (λ q. leaves acts q m) t ∙ (leaves-by acts p j m m₁ xs refl e₁ ∙ leaves-then acts rest (λ zs. ret (xs ++ zs)) m₁)),
+        )

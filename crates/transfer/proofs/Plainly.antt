@@ -36,18 +36,19 @@ unfolding request-prog request
 gathers-plainly n [] m h = (sym (take-all n [] (omega arith)), refl)
 gathers-plainly n (d ∷ ds) m h =
     elim (cases-bool (writable d)) [
-      inl w ↦ rw w (gathers-plainly n ds m (within-tail (length m) d ds h))
-    | inr w ↦
-        let i : d .addr + d .len ≤ length m = h 0 d (omega arith) in
-        let p = get-bytes (min (d .len) n) (d .addr) in
-        let rest = request-prog (n - min (d .len) n) ds in
-        let part = plain-get (min (d .len) n) (d .addr) m (omega arith) in
-        let ih = gathers-plainly (n - min (d .len) n) ds m (within-tail (length m) d ds h) in
-        let xs = take (min (d .len) n) (drop (d .addr) m) in
-        let k = λ (ys : List ℕ). then rest (λ zs. ret (ys ++ zs)) in
-        rw w
-        (ends-by plain p k m m xs (sym (part .0)) (sym (part .1)) ∙ (ends-then plain rest (λ zs. ret (xs ++ zs)) m ∙ (ap (λ zs. xs ++ zs) (ih .0) ∙ cut-front n (d .len) (d .addr) m (request m ds) i)),
-         leaves-by plain p k m m xs (sym (part .0)) (sym (part .1)) ∙ (leaves-then plain rest (λ zs. ret (xs ++ zs)) m ∙ ih .1))
+      | inl w ↦ rw w (gathers-plainly n ds m (within-tail (length m) d ds h))
+      | inr w ↦
+          let i : d .addr + d .len ≤ length m = h 0 d (omega arith) in
+          let p = get-bytes (min (d .len) n) (d .addr) in
+          let rest = request-prog (n - min (d .len) n) ds in
+          let part = plain-get (min (d .len) n) (d .addr) m (omega arith) in
+          let ih = gathers-plainly (n - min (d .len) n) ds m (within-tail (length m) d ds h) in
+          let xs = take (min (d .len) n) (drop (d .addr) m) in
+          let k = λ (ys : List ℕ). then rest (λ zs. ret (ys ++ zs)) in
+          rw w (
+            ends-by plain p k m m xs (sym (part .0)) (sym (part .1)) ∙ (ends-then plain rest (λ zs. ret (xs ++ zs)) m ∙ (ap (λ zs. xs ++ zs) (ih .0) ∙ cut-front n (d .len) (d .addr) m (request m ds) i)),
+            leaves-by plain p k m m xs (sym (part .0)) (sym (part .1)) ∙ (leaves-then plain rest (λ zs. ret (xs ++ zs)) m ∙ ih .1),
+          )
     ]
 
 -- ## Finishing
@@ -63,8 +64,8 @@ unfolding filled
 filled-length n [] xs m e f = e
 filled-length n (d ∷ ds) xs m e f =
     elim (cases-bool (writable d)) [
-      inl w ↦ rw w (filled-length n ds (drop (d .len) xs) (set-bytes m (d .addr) (take (d .len) xs)) (set-length m (d .addr) (take (d .len) xs) (put-fits n d xs m e (f 0 d (omega arith))) ∙ e) (within-tail n d ds f))
-    | inr w ↦ rw w (filled-length n ds xs m e (within-tail n d ds f))
+      | inl w ↦ rw w (filled-length n ds (drop (d .len) xs) (set-bytes m (d .addr) (take (d .len) xs)) (set-length m (d .addr) (take (d .len) xs) (put-fits n d xs m e (f 0 d (omega arith))) ∙ e) (within-tail n d ds f))
+      | inr w ↦ rw w (filled-length n ds xs m e (within-tail n d ds f))
     ]
 
 plain-fill : (ds : List Descriptor) (xs m : List ℕ) → Within (length m) ds → leaves plain (fill-prog ds xs) m ≡ filled ds xs m
@@ -75,9 +76,9 @@ plain-fill (d ∷ ds) xs m h =
     let l = put-fits (length m) d xs m refl (h 0 d (omega arith)) in
     let s = set-length m (d .addr) ys l in
     leaves-cond (writable d) _ _ m ∙ ap₂ (cond (writable d))
-      (leaves-then plain (put-bytes (d .addr) ys) _ m ∙ (ap (λ n. leaves plain (fill-prog ds (drop (d .len) xs)) n) (plain-put (d .addr) ys m l)
-        ∙ plain-fill ds (drop (d .len) xs) (set-bytes m (d .addr) ys) (λ j e b. omega (arith, s, h (suc j) e (omega arith)))))
-      (plain-fill ds xs m (λ j e b. h (suc j) e (omega arith)))
+    (leaves-then plain (put-bytes (d .addr) ys) _ m ∙ (ap (λ n. leaves plain (fill-prog ds (drop (d .len) xs)) n) (plain-put (d .addr) ys m l)
+    ∙ plain-fill ds (drop (d .len) xs) (set-bytes m (d .addr) ys) (λ j e b. omega (arith, s, h (suc j) e (omega arith)))))
+    (plain-fill ds xs m (λ j e b. h (suc j) e (omega arith)))
 
 plain-used : (r : Ring) (k h n : ℕ) (m : List ℕ) → 0 < r .size → ends-at r ≤ length m → leaves plain (used-prog r k h n) m ≡ used r k h n m
 unfolding used

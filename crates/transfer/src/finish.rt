@@ -55,7 +55,14 @@ fn put_used<M: GuestMemory>(layout: &Layout, m: &mut M, k: u16, head: u16, len: 
 }
 
 // The response into the chain, which is the `k`-th and begins with `head`, and then that it is used.
-pub fn finish<M: GuestMemory>(layout: &Layout, m: &mut M, k: u16, head: u16, chain: &Chain, response: &[u8])
+pub fn finish<M: GuestMemory>(
+    layout: &Layout,
+    m: &mut M,
+    k: u16,
+    head: u16,
+    chain: &Chain,
+    response: &[u8],
+)
     requires { ⌜ ends-at (ring-of (now layout)) ≤ holds (now m) ⌝ ∗ ⌜ Within (holds (now m)) (listed (now chain)) ⌝ ∗ ⌜ length (now response) < 65536 ⌝ }
     ensures then { λ _. ⌜ now (m .exit) ≡ leaves acts (finish-prog (ring-of (now (layout .entry))) k head (listed (now (chain .entry))) (now (response .entry))) (now (m .entry)) ⌝ }
     ensures size { λ _. ⌜ holds (now (m .exit)) ≡ holds (now (m .entry)) ⌝ }

@@ -6,10 +6,10 @@ ghost use Rattle.vring.specs.Programs.{ends, leaves, get-bytes};
 ghost use Rattle.chains.specs.Chains.{listed};
 ghost use Rattle.transfer.specs.Requests.{held, request-prog};
 ghost use Rattle.transfer.specs.Responses.{Within};
+use crate::request::Request;
 use chains::chain::Chain;
 use chains::descriptor::Descriptor;
 use vring::memory::GuestMemory;
-use crate::request::Request;
 
 impl Request {
     // A request of no bytes.

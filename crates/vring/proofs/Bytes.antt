@@ -30,8 +30,8 @@ set-inside m a xs k h g l = grind (arith, places)
 pub set-where : (m : List ℕ) (a : ℕ) (xs : List ℕ) (k : ℕ) → a + length xs ≤ length m → (getD (set-bytes m a xs) k 0 ≡ getD m k 0) ⊎ ((a ≤ k) × (k < a + length xs))
 set-where m a xs k h =
     elim (cases-lt k a) [
-      inl l ↦ inl (set-below m a xs k h l)
-    | inr g ↦ elim (cases-lt k (a + length xs)) [ inl l ↦ inr (g, l) | inr l ↦ inl (set-above m a xs k h l) ]
+      | inl l ↦ inl (set-below m a xs k h l)
+      | inr g ↦ elim (cases-lt k (a + length xs)) [ inl l ↦ inr (g, l) | inr l ↦ inl (set-above m a xs k h l) ]
     ]
 
 pub set-none : (m : List ℕ) (a : ℕ) → a ≤ length m → set-bytes m a [] ≡ m

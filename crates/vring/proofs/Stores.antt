@@ -46,9 +46,10 @@ plain-get zero a m h = (refl, refl)
 plain-get (suc n) a m h =
     let k = λ (xs : List ℕ). ret (getD m a 0 ∷ xs) in
     let ih = plain-get n (a + 1) m (omega arith) in
-    let d = drop-cons m a 0 (omega arith) in
-    (ends-then plain (get-bytes n (a + 1)) k m ∙ (ap (λ xs. getD m a 0 ∷ xs) (ih .0 ∙ ap (λ j. take n (drop j m)) (add-one a)) ∙ ap (take (suc n)) (sym d)),
-     leaves-then plain (get-bytes n (a + 1)) k m ∙ ih .1)
+    let d = drop-cons m a 0 (omega arith) in (
+      ends-then plain (get-bytes n (a + 1)) k m ∙ (ap (λ xs. getD m a 0 ∷ xs) (ih .0 ∙ ap (λ j. take n (drop j m)) (add-one a)) ∙ ap (take (suc n)) (sym d)),
+      leaves-then plain (get-bytes n (a + 1)) k m ∙ ih .1,
+    )
 
 -- a middle part that was written as a whole
 pub put-middle : (m ys xs : List ℕ) (a k : ℕ) → ys ≡ xs → k ≡ length xs → putMid a k m ys ≡ set-bytes m a xs
