@@ -1,4 +1,5 @@
 pub mod Serving
 pub mod Promises
+pub mod Histories
 pub mod Meanings
 pub mod Example
