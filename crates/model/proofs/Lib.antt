@@ -6,3 +6,4 @@ pub mod Asked
 pub mod Examples
 pub mod Tallies
 pub mod Founds
+pub mod Runs

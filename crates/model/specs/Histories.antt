@@ -1,7 +1,7 @@
 -- What is promised over whole histories: a guest that writes what it likes, servings and resets, in any order.
 use mathlib.Core.Path.{_≡_}
 use mathlib.Core.Bool.{true}
-use mathlib.Core.List.{List, [], _∷_}
+use mathlib.Core.List.{List, [], _∷_, _++_}
 use mathlib.Core.Logic.{_⊎_}
 use Prim.Native.Nat.{ℕ, _≤_}
 use lib.ListN.{length}
@@ -50,9 +50,16 @@ abbrev pub at-end : Ring → State → List Event → State
 at-end r b [] = b
 at-end r b (e ∷ es) = at-end r (after r b e) es
 
+-- the jobs that a history did, in order: those that account for its servings, one after the other
+abbrev pub Did : Ring → State → List Event → List Job → Type 0
+Did r b [] js = js ≡ []
+Did r b (writes m ∷ es) js = Did r (after r b (writes m)) es js
+Did r b (serves n ∷ es) js = (ks : List Job) × (ls : List Job) × Account r b n (after r b (serves n)) ks × Did r (after r b (serves n)) es ls × (js ≡ ks ++ ls)
+Did r b (resets ∷ es) js = Did r (after r b resets) es js
+
 -- whatever the guest writes, every serving of a history keeps its promises, and at its end the contents are those of all the requests
 -- that were served, in order
 abbrev pub Over-any-history : Type 0
 Over-any-history =
     (r : Ring) (b : State) (es : List Event) → Sound r b → Possible r b es →
-    Throughout r b es × ((js : List Job) × (at-end r b es .device .kept ≡ kept-by (b .device .kept) js))
+    Throughout r b es × ((js : List Job) × Did r b es js × (at-end r b es .device .kept ≡ kept-by (b .device .kept) js))

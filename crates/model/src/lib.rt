@@ -1,5 +1,6 @@
 // What is promised of the definition of a serving, as contracts: each function's proof is the statement that its contract names.
 ghost use Rattle.model.specs.Promises.{Accounts, Stays-sound, Stays-stopped, Done-with, Recovers, As-asked, Waits-means};
+ghost use Rattle.model.specs.Histories.{Over-any-history};
 ghost use Rattle.model.specs.Meanings.{Found};
 ghost use Rattle.model.specs.Example.{Example-served, Example-orderly};
 
@@ -69,6 +70,13 @@ pub fn example_served() -> u8
 // And its guest keeps to the rules.
 pub fn example_orderly() -> u8
     ensures { λ _. ⌜ Example-orderly ⌝ }
+{
+    0
+}
+
+// The promises hold over any history of guest writes, servings and resets.
+pub fn over_any_history() -> u8
+    ensures { λ _. ⌜ Over-any-history ⌝ }
 {
     0
 }
