@@ -16,14 +16,13 @@ impl Chain {
         ensures items { λ c. ⌜ listed c ≡ [] ⌝ }
         ensures len { λ c. ⌜ c .len ≡ 0 ⌝ }
     {
-        Chain {
-            at: [Descriptor {
-                addr: 0,
-                len: 0,
-                flags: 0,
-            }; 64],
+        let none = Descriptor {
+            addr: 0,
             len: 0,
-        }
+            flags: 0,
+        };
+        let at = [none; 64];
+        Chain { at, len: 0 }
     }
 
     // Lists nothing any more.

@@ -94,8 +94,8 @@ pub fn serve(
     done
 }
 
-// Resets the device, whose contents stay.
-pub fn begin_anew(state: &mut [u32]) -> Done
+// Makes both numbers of the state 0, if it has two.
+fn reset(state: &mut [u32]) -> Done
     ensures { λ d. ⌜ Anew-says (now (state .entry)) d (now (state .exit)) ⌝ }
 {
     if state.len() != 2 {
@@ -104,6 +104,13 @@ pub fn begin_anew(state: &mut [u32]) -> Done
     state[0] = 0;
     state[1] = 0;
     Done::Anew
+}
+
+// Resets the device, whose contents stay.
+pub fn begin_anew(state: &mut [u32]) -> Done
+    ensures { λ d. ⌜ Anew-says (now (state .entry)) d (now (state .exit)) ⌝ }
+{
+    reset(state)
 }
 
 // The part of memory that descriptor `at` names, or an empty one.
