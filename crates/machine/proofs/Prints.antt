@@ -10,7 +10,7 @@ use lib.ListN.{length, getD, drop}
 use lib.Seq.{drop-cons}
 use Rattle.std.proofs.shelf.Lists.{drop-all, append-assoc, append-nil}
 use Rattle.std.proofs.shelf.Tests.{eq-eqb, ne-eqb}
-use Rattle.script.specs.Shown.{change}
+use Rattle.report.specs.Lines.{change}
 use Rattle.machine.specs.Steps.{changes, counted}
 
 module _ (name : List ℕ) (xs ys : List ℕ) (i : ℕ) (h : i < length xs) (k : i < length ys) where

@@ -7,7 +7,7 @@ use Rattle.std.specs.declared.option.Option.the-variants.{Some, None}
 use Rattle.std.specs.declared.result.Result.{Result}
 use Rattle.std.specs.declared.result.Result.the-variants.{Ok, Err}
 use Rattle.script.specs.Format.{Cmd, read}
-use Rattle.script.specs.Shown.{refused}
+use Rattle.report.specs.Lines.{refused}
 use Rattle.machine.specs.Refusals.{number-of, place-of}
 use Rattle.machine.specs.Bench.{Bench}
 use Rattle.machine.specs.Steps.{Step, goes, refuses, step}

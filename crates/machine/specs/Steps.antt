@@ -13,7 +13,7 @@ use Rattle.model.specs.Serving.{State, serve-times}
 use Rattle.serving.specs.Entries.{state-in, numbers-of, refusal, answer, part}
 use Rattle.serving.specs.declared.done.Done.{Done}
 use Rattle.serving.specs.declared.done.Done.the-variants.{Served, Stopped, Anew, Refused}
-use Rattle.script.specs.Shown.{change, waiting, piece-of}
+use Rattle.report.specs.Lines.{change, waiting, piece-of}
 use Rattle.script.specs.Format.{Cmd, memory, ring, bytes-at, kept, serve, anew, piece}
 use Rattle.machine.specs.Bench.{Bench}
 use Rattle.machine.specs.declared.refusal.Refusal.{Refusal}

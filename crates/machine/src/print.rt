@@ -5,10 +5,10 @@ ghost use mathlib.Core.List.{_++_};
 ghost use mathlib.Core.Path.{_≡_};
 ghost use Rattle.std.specs.Of.String.{string-bytes};
 ghost use Rattle.std.specs.Vec.{made};
-ghost use Rattle.script.specs.Stores.{name-of};
+ghost use Rattle.report.specs.Stores.{name-of};
 ghost use Rattle.machine.specs.Steps.{changes, answered, part-line};
-use script::report;
-use script::store::Store;
+use report::lines;
+use report::store::Store;
 use serving::done::Done;
 use std::fmt;
 
@@ -19,7 +19,7 @@ pub fn write_changes(out: &mut String, store: Store, before: &[u8], after: &[u8]
 {
     for i in 0..before.len() {
         if before[i] != after[i] {
-            report::changed(out, store, i as u64, before[i], after[i])?;
+            lines::changed(out, store, i as u64, before[i], after[i])?;
         }
     }
     Ok(())
@@ -30,9 +30,9 @@ pub fn write_answer(out: &mut String, done: Done) -> fmt::Result
     ensures { λ r. ⌜ made r (λ _. string-bytes (now (out .exit)) ≡ string-bytes (now (out .entry)) ++ answered done) ⌝ }
 {
     match done {
-        Done::Served(n) => report::waiting(out, n),
-        Done::Stopped => report::stopped(out),
-        Done::Anew => report::anew(out),
+        Done::Served(n) => lines::waiting(out, n),
+        Done::Stopped => lines::stopped(out),
+        Done::Anew => lines::anew(out),
         Done::Refused(_) => Ok(()),
     }
 }
@@ -42,7 +42,7 @@ pub fn write_part(out: &mut String, i: u64, part: &[u8]) -> fmt::Result
     ensures { λ r. ⌜ made r (λ _. string-bytes (now (out .exit)) ≡ string-bytes (now (out .entry)) ++ part-line i (now (part .entry))) ⌝ }
 {
     if part.is_empty() {
-        return report::no_piece(out, i);
+        return lines::no_piece(out, i);
     }
-    report::piece(out, i, part)
+    lines::piece(out, i, part)
 }

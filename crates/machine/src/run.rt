@@ -8,17 +8,17 @@ ghost use Rattle.machine.specs.Runs.{run, play, Told, Ended, Runs};
 use crate::halt::Halt;
 use crate::machine::Machine;
 use crate::refusal::Refusal;
+use report::lines;
 use script::command::Command;
 use script::fault::Fault;
 use script::parse::parse;
-use script::report;
 use std::alloc::Global;
 
 // Writes the refusal's line, with which a run ends.
 fn refuse(refusal: Refusal, out: &mut String) -> Halt
     ensures { λ h. ⌜ Told h refusal (string-bytes (now (out .entry))) (string-bytes (now (out .exit))) ⌝ }
 {
-    match report::refused(out, refusal.number(), refusal.place()) {
+    match lines::refused(out, refusal.number(), refusal.place()) {
         Ok(()) => Halt::Refused(refusal),
         Err(_) => Halt::NoMemory,
     }

@@ -4,11 +4,10 @@ use mathlib.Core.Path.{_≡_, refl, sym, ap, _∙_}
 use mathlib.Core.List.{List, [], _∷_, _++_, append-assoc, append-nil}
 use lib.Chars.{codes}
 use lib.ListN.{length, getD, drop}
-use Rattle.std.specs.declared.option.Option.the-variants.{Some}
 use Rattle.std.specs.Written.{decimal}
 use Rattle.std.proofs.shelf.Lists.{at-drop-more, at-drop-all}
 use Rattle.script.specs.Format.{bytes-at}
-use Rattle.script.specs.Shown.{spaced, shown, piece-of}
+use Rattle.script.specs.Shown.{spaced, shown}
 
 -- what is written, and what is left to write
 module _ (so-far bs whole : List ℕ) (i : ℕ) (inv : so-far ++ spaced (drop i bs) ≡ whole) where
@@ -27,11 +26,3 @@ row-written a xs s t n d e =
     e ∙ (ap (λ v. v ++ spaced xs) d
     ∙ (append-assoc a (codes "bytes " ++ (decimal n ++ codes ":")) (spaced xs)
     ∙ ap (λ v. a ++ (codes "bytes " ++ v)) (append-assoc (decimal n) (codes ":") (spaced xs))))
-
-pub piece-written : (a xs s t u : List ℕ) (n : ℕ) → s ≡ a ++ (codes "piece " ++ (decimal n ++ codes ":")) → t ≡ s ++ spaced xs → u ≡ t ++ codes "\n" → u ≡ a ++ piece-of n (Some xs)
-piece-written a xs s t u n d e f =
-    f ∙ (ap (λ v. v ++ codes "\n") e
-    ∙ (append-assoc s (spaced xs) (codes "\n")
-    ∙ (ap (λ v. v ++ (spaced xs ++ codes "\n")) d
-    ∙ (append-assoc a (codes "piece " ++ (decimal n ++ codes ":")) (spaced xs ++ codes "\n")
-    ∙ ap (λ v. a ++ (codes "piece " ++ v)) (append-assoc (decimal n) (codes ":") (spaced xs ++ codes "\n"))))))

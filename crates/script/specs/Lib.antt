@@ -4,6 +4,5 @@ pub mod Commands
 pub mod Keywords
 pub mod Parses
 pub mod Shown
-pub mod Stores
 pub mod Laws
 pub mod Examples

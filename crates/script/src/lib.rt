@@ -9,7 +9,5 @@ mod named;
 mod number;
 pub mod parse;
 mod part;
-pub mod report;
 mod said;
 pub mod show;
-pub mod store;

@@ -4,8 +4,8 @@ use mathlib.Core.List.{_++_, append-assoc, append-nil}
 use Prim.Native.Nat.{_+_, _<_}
 use lib.ListN.{length, drop, getD}
 use Rattle.std.specs.Of.String.{string-bytes}
-use Rattle.script.specs.Shown.{change}
-use Rattle.script.specs.Stores.{name-of}
+use Rattle.report.specs.Lines.{change}
+use Rattle.report.specs.Stores.{name-of}
 use Rattle.machine.specs.Steps.{changes}
 use Rattle.machine.proofs.Prints.{changes-same, changes-other, changes-end}
 use Rattle.machine.proofs.print.write_changes.Needs as need

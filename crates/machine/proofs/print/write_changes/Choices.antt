@@ -2,7 +2,7 @@ use mathlib.Core.Path.{_≡_}
 use mathlib.Core.List.{_++_}
 use lib.ListN.{drop}
 use Rattle.std.specs.Of.String.{string-bytes}
-use Rattle.script.specs.Stores.{name-of}
+use Rattle.report.specs.Stores.{name-of}
 use Rattle.machine.specs.Steps.{changes}
 use Rattle.machine.proofs.print.write_changes.Given as given
 

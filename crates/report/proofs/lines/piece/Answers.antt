@@ -1,7 +1,7 @@
 use Rattle.std.specs.Of.String.{string-bytes}
 use Rattle.std.proofs.shelf.Results.{made-weaker}
-use Rattle.script.proofs.Spaces.{piece-written}
-use Rattle.script.proofs.report.piece.Needs as need
+use Rattle.report.proofs.Pieces.{piece-written}
+use Rattle.report.proofs.lines.piece.Needs as need
 
 pub returns : need.returns
 returns c =

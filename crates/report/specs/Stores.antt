@@ -2,8 +2,8 @@
 use Prim.Native.Nat.{ℕ}
 use mathlib.Core.List.{List}
 use lib.Chars.{codes}
-use Rattle.script.specs.declared.store.Store.{Store}
-use Rattle.script.specs.declared.store.Store.the-variants.{Memory, Kept}
+use Rattle.report.specs.declared.store.Store.{Store}
+use Rattle.report.specs.declared.store.Store.the-variants.{Memory, Kept}
 
 abbrev pub name-of : Store → List ℕ
 name-of Memory = codes "memory"

@@ -5,10 +5,10 @@ ghost use lib.Chars.{codes};
 ghost use Rattle.std.specs.Of.String.{string-bytes};
 ghost use Rattle.std.specs.Vec.{made};
 ghost use Rattle.std.specs.declared.option.Option.the-variants.{Some, None};
-ghost use Rattle.script.specs.Shown.{change, waiting as waiting-line, piece-of, refused as refused-line};
-ghost use Rattle.script.specs.Stores.{name-of};
-use crate::show::write_bytes;
+ghost use Rattle.report.specs.Lines.{change, waiting as waiting-line, piece-of, refused as refused-line};
+ghost use Rattle.report.specs.Stores.{name-of};
 use crate::store::Store;
+use script::show::write_bytes;
 use std::fmt;
 
 // Writes that a byte changed: `memory 22: 0 -> 1`, `kept 16: 16 -> 7`.

@@ -1,0 +1,3 @@
+// What happened, as text.
+pub mod lines;
+pub mod store;
