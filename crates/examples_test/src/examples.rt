@@ -5,33 +5,12 @@ use std::alloc::AllocError;
 use std::alloc::Global;
 use std::test::*;
 
-// Status 0 and block 1.
-const BLOCK: [u8; 17] = [
-    0,
-    16,
-    17,
-    18,
-    19,
-    20,
-    21,
-    22,
-    23,
-    24,
-    25,
-    26,
-    27,
-    28,
-    29,
-    30,
-    31,
-];
-
 // A read of a block: the response is in the writable part, and the chain is used.
 #[test]
 fn reads_a_block(rt: LibcRuntime) -> Result<(), Fail> {
     let mut s = Setup::example(rt.alloc())?;
     let mut want = s.copied(rt.alloc())?;
-    want.put(48, &BLOCK);
+    want.put(48, BLOCK);
     want.mark_used(0, 0, 17);
     want.put_state(1, 0);
     is_served(s.serve(1), 0)?;
@@ -45,7 +24,7 @@ fn reads_a_block_there(rt: LibcRuntime) -> Result<(), Fail> {
     is_served(s.serve(1), 0)?;
     check(s.memory.len() == 65)?;
     check_eq(&s.memory[22..32], &[1, 0, 0, 0, 17, 0, 0, 0, 0, 0])?;
-    check_eq(&s.memory[48..65], &BLOCK)?;
+    check_eq(&s.memory[48..65], BLOCK)?;
     check_eq(&s.state, &[1, 0])
 }
 
@@ -53,53 +32,12 @@ fn reads_a_block_there(rt: LibcRuntime) -> Result<(), Fail> {
 #[test]
 fn writes_a_block(rt: LibcRuntime) -> Result<(), Fail> {
     let mut s = Setup::chain_of(rt.alloc(), readable(40, 18, 1), writable(60, 5))?;
-    s.put(
-        40,
-        &[
-            1,
-            1,
-            100,
-            101,
-            102,
-            103,
-            104,
-            105,
-            106,
-            107,
-            108,
-            109,
-            110,
-            111,
-            112,
-            113,
-            114,
-            115,
-        ],
-    );
+    s.put(40, &[1, 1]);
+    s.put(42, b"ABCDEFGHIJKLMNOP");
     s.put(60, &[9, 9, 9, 9, 9]);
     let mut want = s.copied(rt.alloc())?;
     want.put(60, &[0]);
-    want.keep(
-        16,
-        &[
-            100,
-            101,
-            102,
-            103,
-            104,
-            105,
-            106,
-            107,
-            108,
-            109,
-            110,
-            111,
-            112,
-            113,
-            114,
-            115,
-        ],
-    );
+    want.keep(16, b"ABCDEFGHIJKLMNOP");
     want.mark_used(0, 0, 1);
     want.put_state(1, 0);
     is_served(s.serve(1), 0)?;
@@ -166,7 +104,7 @@ fn passes_over_other_flags(rt: LibcRuntime) -> Result<(), Fail> {
     };
     let mut s = Setup::chain_of(rt.alloc(), first, last)?;
     let mut want = s.copied(rt.alloc())?;
-    want.put(48, &BLOCK);
+    want.put(48, BLOCK);
     want.mark_used(0, 0, 17);
     want.put_state(1, 0);
     is_served(s.serve(1), 0)?;
@@ -182,7 +120,7 @@ fn takes_parts_beside_the_ring(rt: LibcRuntime) -> Result<(), Fail> {
     s.offer(0, 0);
     s.put(18, &[0, 1]);
     let mut want = s.copied(rt.alloc())?;
-    want.put(52, &BLOCK);
+    want.put(52, BLOCK);
     want.mark_used(0, 0, 17);
     want.put_state(1, 0);
     is_served(s.serve(1), 0)?;
@@ -216,7 +154,7 @@ fn long_chain(heap: Global) -> Result<Setup, AllocError> {
 fn takes_a_full_chain(rt: LibcRuntime) -> Result<(), Fail> {
     let mut s = long_chain(rt.alloc())?;
     let mut want = s.copied(rt.alloc())?;
-    want.put(910, &BLOCK);
+    want.put(910, BLOCK);
     want.mark_used(0, 0, 17);
     want.put_state(1, 0);
     is_served(s.serve(1), 0)?;
@@ -231,7 +169,7 @@ fn counts_across_the_end(rt: LibcRuntime) -> Result<(), Fail> {
     s.offer(65535, 0);
     s.offer(0, 0);
     let mut want = s.copied(rt.alloc())?;
-    want.put(48, &BLOCK);
+    want.put(48, BLOCK);
     want.mark_used(65535, 0, 17);
     want.put_state(0, 0);
     is_served(s.serve(1), 1)?;
@@ -250,7 +188,7 @@ fn keeps_the_budget(rt: LibcRuntime) -> Result<(), Fail> {
     let mut want = s.copied(rt.alloc())?;
     is_served(s.serve(0), 2)?;
     s.is_as(&want)?;
-    want.put(48, &BLOCK);
+    want.put(48, BLOCK);
     want.mark_used(0, 0, 17);
     want.mark_used(1, 0, 17);
     want.put_state(2, 0);

@@ -14,28 +14,8 @@ fn serves_again(rt: LibcRuntime) -> Result<(), Fail> {
     is_anew(s.reset())?;
     s.offer(0, 0);
     let mut want = s.copied(rt.alloc())?;
-    want.put(
-        48,
-        &[
-            0,
-            90,
-            91,
-            18,
-            19,
-            20,
-            21,
-            22,
-            23,
-            24,
-            25,
-            26,
-            27,
-            28,
-            29,
-            30,
-            31,
-        ],
-    );
+    want.put(48, BLOCK);
+    want.put(49, &[90, 91]);
     want.mark_used(0, 0, 17);
     want.put_state(1, 0);
     is_served(s.serve(1), 0)?;

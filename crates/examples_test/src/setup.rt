@@ -26,6 +26,10 @@ pub struct Descriptor {
     pub next: u16,
 }
 
+// Status 0 and block 1 of the contents of the example: 16 to 31.
+pub const BLOCK: &[u8; 17] =
+    b"\x00\x10\x11\x12\x13\x14\x15\x16\x17\x18\x19\x1a\x1b\x1c\x1d\x1e\x1f";
+
 // A readable descriptor, with another behind it.
 pub fn readable(addr: u16, len: u16, next: u16) -> Descriptor {
     Descriptor {
