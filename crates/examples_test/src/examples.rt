@@ -68,6 +68,7 @@ fn answers_255(heap: Global, request: &[u8]) -> Result<(), Fail> {
     s.is_as(&want)
 }
 
+// No code, a write that is too short, and reads past what is kept.
 #[test]
 fn answers_no_request(rt: LibcRuntime) -> Result<(), Fail> {
     answers_255(rt.alloc(), &[7, 7])?;

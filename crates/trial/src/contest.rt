@@ -51,12 +51,26 @@ fn in_words(done: Done) -> Answer {
 
 // Serves by the entry.
 fn by_entry(g: &mut Guest, times: u64) -> Done {
-    serve(g.places, g.begins, &mut g.memory, &mut g.state, &mut g.kept, times)
+    serve(
+        g.places,
+        g.begins,
+        &mut g.memory,
+        &mut g.state,
+        &mut g.kept,
+        times,
+    )
 }
 
 // Serves by the reading.
 fn by_rules(g: &mut Guest, reading: &mut Reading, times: u64) -> Result<Answer, AllocError> {
-    reading.serve(g.places, g.begins, &mut g.memory, &mut g.state, &mut g.kept, times)
+    reading.serve(
+        g.places,
+        g.begins,
+        &mut g.memory,
+        &mut g.state,
+        &mut g.kept,
+        times,
+    )
 }
 
 // Lets any number of chains wait.
@@ -66,6 +80,7 @@ fn let_any_wait(g: &mut Guest, r: &mut Random) {
 }
 
 impl Contest {
+    // Nothing was seen yet.
     pub fn new(heap: Global) -> Contest {
         Contest {
             guest: Guest::new(heap),
@@ -134,7 +149,11 @@ impl Contest {
 
     // Lets the guest go on, with a reset if there is to be one; true where both agree on that.
     fn go_on(&mut self, r: &mut Random) -> Result<bool, AllocError> {
-        let resets = if self.guest.is_stopped() { !r.once_in(4) } else { r.once_in(10) };
+        let resets = if self.guest.is_stopped() {
+            !r.once_in(4)
+        } else {
+            r.once_in(10)
+        };
         let agree = !resets || self.resets()?;
         match r.below(5) {
             0 => spoil(&mut self.guest, r),

@@ -13,12 +13,16 @@ impl Frame {
     // A ring of any number of places, mostly in a small memory.
     pub fn any(r: &mut Random) -> Frame {
         let n = r.pick(&[1, 1, 2, 2, 2, 4, 4, 4, 8, 8, 16, 16, 32, 64]);
-        if r.once_in(1000) {
+        if r.once_in(250) {
             return Frame::of_all(r, n);
         }
         let before = r.pick(&[0, 0, 0, 1, 2, 18, 40, 90, 200]);
         let behind = r.pick(&[0, 1, 2, 18, 40, 40, 90, 90, 200, 200]);
-        let more = if n > 8 { 6 * n as u32 } else { 0 };
+        let more = match n {
+            32 | 64 if r.once_in(100) => 4096,
+            16 | 32 | 64 => 6 * n as u32,
+            _ => 0,
+        };
         Frame {
             n,
             base: before,
@@ -65,7 +69,7 @@ impl Frame {
     }
 
     // How many bytes there are behind the ring.
-    fn behind(self) -> u16 {
+    pub fn behind(self) -> u16 {
         self.size.saturating_sub(self.end()).min(65535) as u16
     }
 

@@ -110,7 +110,10 @@ impl Guest {
 
     // Sets one field of descriptor `i`: 0 is the address, 1 the length, 2 the flags, 3 the next one.
     pub fn put_field(&mut self, i: u16, field: u8, number: u16) {
-        self.put_number(self.frame.descriptor_at(i).wrapping_add(2 * field as u32), number);
+        self.put_number(
+            self.frame.descriptor_at(i).wrapping_add(2 * field as u32),
+            number,
+        );
     }
 
     // Sets descriptor `i`.
@@ -128,7 +131,10 @@ impl Guest {
 
     // Sets the available count, so that so many chains wait.
     pub fn let_wait(&mut self, waiting: u16) {
-        self.put_number(self.frame.available_at(), self.served().wrapping_add(waiting));
+        self.put_number(
+            self.frame.available_at(),
+            self.served().wrapping_add(waiting),
+        );
     }
 }
 

@@ -44,10 +44,14 @@ fn say(rt: &LibcRuntime, t: &Tally) -> Result<(), AnyError> {
     let reset = t.reset;
     let refused = t.refused;
     let differ = t.differ;
-    println!(rt, "{memories} memories: {served} chains served, {stopped} stopped, {reset} reset, {refused} refused, {differ} differ")?;
+    println!(
+        rt,
+        "{memories} memories: {served} chains served, {stopped} stopped, {reset} reset, {refused} refused, {differ} differ"
+    )?;
     Ok(())
 }
 
+// Tries as many memories as the arguments say.
 fn run(rt: &LibcRuntime) -> Result<(), AnyError> {
     let mut words = env::args(rt)?;
     let _ = words.next();
@@ -61,6 +65,7 @@ fn run(rt: &LibcRuntime) -> Result<(), AnyError> {
     Ok(())
 }
 
+// Ends with status 1 where the two differ.
 fn main(rt: LibcRuntime) -> Result<(), AnyError> {
     rt.report(run(&rt))
 }

@@ -19,7 +19,11 @@ impl Request {
         let blocks = (kept / 16).min(255) as u16;
         Request {
             code: if r.once_in(10) { r.byte() } else { code },
-            block: if r.once_in(10) { r.byte() } else { (r.up_to(blocks) % 256) as u8 },
+            block: if r.once_in(10) {
+                r.byte()
+            } else {
+                (r.up_to(blocks) % 256) as u8
+            },
             len,
         }
     }
@@ -43,6 +47,7 @@ struct Order {
 }
 
 impl Order {
+    // Any order.
     fn any(r: &mut Random, n: u16) -> Order {
         Order {
             n,
@@ -97,7 +102,15 @@ impl Draft {
             r.pick(&[0, 1, 63, 64, 65535])
         };
         let flags = flags(r, has_next, is_writable);
-        g.describe(self.order.at(i), Descriptor { addr, len, flags, next });
+        g.describe(
+            self.order.at(i),
+            Descriptor {
+                addr,
+                len,
+                flags,
+                next,
+            },
+        );
         self.at = self.at.wrapping_add(1);
     }
 
@@ -117,6 +130,14 @@ impl Draft {
         }
     }
 
+    // Writes descriptors of 65,536 bytes together.
+    fn add_length(&mut self, g: &mut Guest, r: &mut Random, is_writable: bool) {
+        for _ in 0..LONG {
+            let addr = g.frame.place(r, 4096);
+            self.add(g, r, addr, 4096, is_writable);
+        }
+    }
+
     // Writes so many writable descriptors.
     fn add_capacity(&mut self, g: &mut Guest, r: &mut Random, parts: u16) {
         let mut left = r.pick(&[17, 17, 17, 17, 18, 40, 1, 1, 0, 4, 16]);
@@ -128,6 +149,9 @@ impl Draft {
         }
     }
 }
+
+// How many descriptors of 4,096 bytes have 65,536 bytes together.
+const LONG: u16 = 16;
 
 // How many descriptors a chain has, where there are `most` left.
 fn chain_len(r: &mut Random, most: u16) -> u16 {
@@ -149,6 +173,39 @@ fn readable_len(r: &mut Random, len: u16) -> u16 {
     1u16.saturating_add(r.below(len - 1))
 }
 
+// Writes a chain from place `from` of the order on, and says how many descriptors it has.
+fn write_chain(g: &mut Guest, r: &mut Random, order: Order, from: u16) -> u16 {
+    let most = g.frame.n.saturating_sub(from);
+    let is_long = most > LONG && g.frame.behind() >= 4096;
+    let short = if is_long {
+        chain_len(r, most - LONG)
+    } else {
+        chain_len(r, most)
+    };
+    let len = if is_long {
+        short.saturating_add(LONG)
+    } else {
+        short
+    };
+    let readable = readable_len(r, short);
+    let is_written = r.once_in(2);
+    let mut draft = Draft {
+        order,
+        from,
+        len,
+        at: 0,
+    };
+    draft.add_request(g, r, readable);
+    if is_long && !is_written {
+        draft.add_length(g, r, false);
+    }
+    draft.add_capacity(g, r, short.saturating_sub(readable));
+    if is_long && is_written {
+        draft.add_length(g, r, true);
+    }
+    len
+}
+
 // Makes chains of all descriptors of the ring, and offers them: the first one at each place that is left over.
 pub fn offer_chains(g: &mut Guest, r: &mut Random) {
     let n = g.frame.n;
@@ -158,17 +215,7 @@ pub fn offer_chains(g: &mut Guest, r: &mut Random) {
     for k in 0..n {
         g.put_head(served.wrapping_add(k), order.at(from % n.max(1)));
         if from < n {
-            let len = chain_len(r, n - from);
-            let readable = readable_len(r, len);
-            let mut draft = Draft {
-                order,
-                from,
-                len,
-                at: 0,
-            };
-            draft.add_request(g, r, readable);
-            draft.add_capacity(g, r, len.saturating_sub(readable));
-            from = from.saturating_add(len);
+            from = from.saturating_add(write_chain(g, r, order, from));
         }
     }
     let waiting = match r.below(4) {

@@ -36,6 +36,17 @@ struct Device {
 }
 
 impl Device {
+    // The device that a state says, if it says one.
+    fn read_from(state: &[u32]) -> Option<Device> {
+        if state.len() != 2 || state[0] >= 65536 || state[1] > 1 {
+            return None;
+        }
+        Some(Device {
+            served: state[0] as u16,
+            has_stopped: state[1] == 1,
+        })
+    }
+
     // Sets the two numbers of a state.
     fn write_to(self, state: &mut [u32]) {
         if state.len() == 2 {
@@ -68,14 +79,11 @@ fn put_number(memory: &mut [u8], at: usize, number: u16) {
 impl Ring {
     // The ring, if it is one and lies in a memory of `size` bytes.
     fn new(places: u64, begins: u64, size: usize) -> Option<Ring> {
-        let is_size = match places {
-            1 | 2 | 4 | 8 | 16 | 32 | 64 => true,
-            _ => false,
-        };
-        if !is_size || places == 0 || places > 64 || size > 65536 {
-            return None;
+        match places {
+            1 | 2 | 4 | 8 | 16 | 32 | 64 => {}
+            _ => return None,
         }
-        if begins as u128 + 14 * places as u128 + 4 > size as u128 {
+        if size > 65536 || begins as u128 + 14 * places as u128 + 4 > size as u128 {
             return None;
         }
         Some(Ring {
@@ -106,7 +114,11 @@ impl Ring {
 
     // Where a number of the `k`-th used entry stands.
     fn entry(self, k: u16, offset: u8) -> usize {
-        self.begins as usize + 10 * self.places as usize + 4 + 4 * (k % self.places) as usize + offset as usize
+        self.begins as usize
+            + 10 * self.places as usize
+            + 4
+            + 4 * (k % self.places) as usize
+            + offset as usize
     }
 
     // The first address behind the ring.
@@ -226,6 +238,7 @@ pub struct Reading {
 }
 
 impl Reading {
+    // Room with nothing in it yet.
     pub fn new(heap: Global) -> Reading {
         Reading {
             parts: Vec::new(heap),
@@ -291,19 +304,15 @@ impl Reading {
         let Some(ring) = Ring::new(places, begins, memory.len()) else {
             return Ok(Answer::Refused(1));
         };
-        if state.len() != 2 || state[0] >= 65536 || state[1] > 1 {
+        let Some(mut device) = Device::read_from(state) else {
             return Ok(Answer::Refused(2));
-        }
+        };
         if kept.len() > 4096 {
             return Ok(Answer::Refused(3));
         }
         if times > 1000 {
             return Ok(Answer::Refused(4));
         }
-        let mut device = Device {
-            served: state[0] as u16,
-            has_stopped: state[1] == 1,
-        };
         self.serve_all(ring, memory, &mut device, kept, times)?;
         device.write_to(state);
         if device.has_stopped {

@@ -48,8 +48,17 @@ fn restate(g: &mut Guest, served: u32, stopped: u32) {
     }
 }
 
-// Makes a call one that is refused, in most cases.
+// Makes a call one that is refused, in most cases, and often for two reasons.
 pub fn mislead(g: &mut Guest, r: &mut Random) -> Result<(), AllocError> {
+    mislead_once(g, r)?;
+    if r.once_in(2) {
+        mislead_once(g, r)?;
+    }
+    Ok(())
+}
+
+// Changes one thing that a call may be refused for.
+fn mislead_once(g: &mut Guest, r: &mut Random) -> Result<(), AllocError> {
     match r.below(4) {
         0 => misplace(g, r),
         1 => shift(g, r),

@@ -20,7 +20,7 @@ fn edge(g: &Guest, r: &mut Random) -> (u16, u16) {
         7 => (size.wrapping_sub(len), len.wrapping_add(1)),
         8 => (size, 0),
         9 => (size.wrapping_add(1), 0),
-        10 => (65535, r.pick(&[0, 1, 65535])),
+        10 => (65535, r.pick(&[0, 1, 2, 65535])),
         11 => (0, base),
         12 => (end, size.wrapping_sub(end)),
         _ => (r.up_to(size), r.pick(&[65535, 65530, size])),
@@ -70,12 +70,15 @@ fn scramble(g: &mut Guest, r: &mut Random) {
     let n = g.frame.n;
     for i in 0..n {
         let len = r.below(20);
-        g.describe(i, Descriptor {
-            addr: g.frame.place(r, len),
-            len,
-            flags: r.below(4),
-            next: r.below(n),
-        });
+        g.describe(
+            i,
+            Descriptor {
+                addr: g.frame.place(r, len),
+                len,
+                flags: r.below(4),
+                next: r.below(n),
+            },
+        );
         g.put_head(i, r.below(n));
     }
 }
