@@ -130,9 +130,9 @@ impl Draft {
         }
     }
 
-    // Writes descriptors of 65,536 bytes together.
-    fn add_length(&mut self, g: &mut Guest, r: &mut Random, is_writable: bool) {
-        for _ in 0..LONG {
+    // Writes so many descriptors of 4,096 bytes each.
+    fn add_lengths(&mut self, g: &mut Guest, r: &mut Random, parts: u16, is_writable: bool) {
+        for _ in 0..parts {
             let addr = g.frame.place(r, 4096);
             self.add(g, r, addr, 4096, is_writable);
         }
@@ -176,19 +176,15 @@ fn readable_len(r: &mut Random, len: u16) -> u16 {
 // Writes a chain from place `from` of the order on, and says how many descriptors it has.
 fn write_chain(g: &mut Guest, r: &mut Random, order: Order, from: u16) -> u16 {
     let most = g.frame.n.saturating_sub(from);
-    let is_long = most > LONG && g.frame.behind() >= 4096;
-    let short = if is_long {
-        chain_len(r, most - LONG)
+    let long = if most > LONG && g.frame.behind() >= 4096 {
+        LONG
     } else {
-        chain_len(r, most)
+        0
     };
-    let len = if is_long {
-        short.saturating_add(LONG)
-    } else {
-        short
-    };
+    let short = chain_len(r, most.saturating_sub(long));
+    let len = short.saturating_add(long);
     let readable = readable_len(r, short);
-    let is_written = r.once_in(2);
+    let written = if r.once_in(2) { long } else { 0 };
     let mut draft = Draft {
         order,
         from,
@@ -196,13 +192,9 @@ fn write_chain(g: &mut Guest, r: &mut Random, order: Order, from: u16) -> u16 {
         at: 0,
     };
     draft.add_request(g, r, readable);
-    if is_long && !is_written {
-        draft.add_length(g, r, false);
-    }
+    draft.add_lengths(g, r, long.saturating_sub(written), false);
     draft.add_capacity(g, r, short.saturating_sub(readable));
-    if is_long && is_written {
-        draft.add_length(g, r, true);
-    }
+    draft.add_lengths(g, r, written, true);
     len
 }
 
