@@ -8,6 +8,7 @@ use lib.Bits.{bitAnd}
 use Rattle.std.proofs.shelf.Bits.{and-mask, and-shr, and-mod}
 use Rattle.std.proofs.shelf.Tests.{cases-eq, eq-eqb, ne-eqb}
 use mathlib.Core.Logic.{inl, inr, _⊎_, ⊎-elim}
+use Rattle.chains.specs.Laws.{bit, Flags-mean}
 
 -- a test against zero, where a number is k or 0 as another is 1 or not
 pub tested : (x y : ℕ) → y < 2 → (y ≡ 1 → x ≡ 0 → ⊥) → (y ≡ 0 → x ≡ 0) → not (eqb x 0) ≡ eqb y 1
@@ -28,3 +29,14 @@ second-flag f =
     let z : bitAnd (f % 2) 0 ≡ 0 = and-mask (f % 2) 0 ∙ omega arith in
     let d : bitAnd f 2 % 2 ≡ 0 = and-mod f 2 1 ∙ z in
     tested (bitAnd f 2) (f / 2 % 2) (omega arith) (λ a b. omega arith) (λ a. omega arith)
+
+-- ## The flags by their bits
+odd : (x : ℕ) (b : Bool) → x % 2 ≡ bit b → eqb (x % 2) 1 ≡ b
+odd x true e = eq-eqb (x % 2) 1 e
+odd x false e = ne-eqb (x % 2) 1 (λ z. omega arith)
+
+pub flags-mean : Flags-mean
+flags-mean a l n true true = (odd (1 + 2 * 1 + 4 * n) true (omega arith), odd ((1 + 2 * 1 + 4 * n) / 2) true (omega arith))
+flags-mean a l n true false = (odd (1 + 2 * 0 + 4 * n) true (omega arith), odd ((1 + 2 * 0 + 4 * n) / 2) false (omega arith))
+flags-mean a l n false true = (odd (0 + 2 * 1 + 4 * n) false (omega arith), odd ((0 + 2 * 1 + 4 * n) / 2) true (omega arith))
+flags-mean a l n false false = (odd (0 + 2 * 0 + 4 * n) false (omega arith), odd ((0 + 2 * 0 + 4 * n) / 2) false (omega arith))

@@ -7,7 +7,7 @@ use mathlib.Core.Logic.{_⊎_, _↔_}
 use lib.ListN.{length, getD}
 use Rattle.vring.specs.Programs.{ends, leaves}
 use Rattle.vring.specs.Plain.{plain}
-use Rattle.chains.specs.Descriptors.{has-next, writable, descriptor-at, next-at}
+use Rattle.chains.specs.Descriptors.{has-next, writable, described, descriptor-at, next-at}
 use Rattle.chains.specs.Chains.{goes, chain-from, chain-prog}
 use Rattle.chains.specs.Usable.{usable}
 use Rattle.chains.specs.declared.descriptor.Descriptor.{Descriptor}
@@ -54,3 +54,14 @@ Usable-means = (gs : List Region) (n : ℕ) (ds : List Descriptor) → (usable g
 -- followed over memory as it stands, a chain is the one that stands there, and memory stays
 abbrev pub Follows-plainly : Type 0
 Follows-plainly = (f t n i : ℕ) (m : List ℕ) → (ends plain (chain-prog f t n i) m ≡ chain-from f t n m i) × (leaves plain (chain-prog f t n i) m ≡ m)
+
+-- a flag as a number
+abbrev pub bit : Bool → ℕ
+bit true = 1
+bit false = 0
+
+-- flag 1 says that another follows, flag 2 that the device writes the part, and other flag bits do not count
+abbrev pub Flags-mean : Type 0
+Flags-mean =
+    (a l others : ℕ) (follows writes : Bool) →
+    (has-next (described a l (bit follows + 2 * bit writes + 4 * others)) ≡ follows) × (writable (described a l (bit follows + 2 * bit writes + 4 * others)) ≡ writes)

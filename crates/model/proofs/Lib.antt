@@ -7,3 +7,4 @@ pub mod Examples
 pub mod Tallies
 pub mod Founds
 pub mod Runs
+pub mod Whens

@@ -1,7 +1,7 @@
 // What is promised of the definition of a serving, as contracts: each function's proof is the statement that its contract names.
 ghost use Rattle.model.specs.Promises.{Accounts, Stays-sound, Stays-stopped, Done-with, Recovers, As-asked, Waits-means};
 ghost use Rattle.model.specs.Histories.{Over-any-history};
-ghost use Rattle.model.specs.Meanings.{Found};
+ghost use Rattle.model.specs.Meanings.{Found, Serves-when, Cut-off};
 ghost use Rattle.model.specs.Example.{Example-served, Example-orderly};
 
 // Whatever is in memory, servings change what their chains say and no more, and none is served twice.
@@ -77,6 +77,20 @@ pub fn example_orderly() -> u8
 // The promises hold over any history of guest writes, servings and resets.
 pub fn over_any_history() -> u8
     ensures { λ _. ⌜ Over-any-history ⌝ }
+{
+    0
+}
+
+// When a chain is served, and when the device stops.
+pub fn serves_when() -> u8
+    ensures { λ _. ⌜ Serves-when ⌝ }
+{
+    0
+}
+
+// A response is cut off at the capacity.
+pub fn cut_off() -> u8
+    ensures { λ _. ⌜ Cut-off ⌝ }
 {
     0
 }

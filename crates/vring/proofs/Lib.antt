@@ -1,3 +1,4 @@
 pub mod Binds
 pub mod Bytes
 pub mod Stores
+pub mod Meanings

@@ -3,3 +3,4 @@ pub mod Programs
 pub mod Rings
 pub mod Layouts
 pub mod Plain
+pub mod Laws

@@ -1,4 +1,5 @@
 // Guest memory, the numbers in it, and where a ring stands.
+pub mod laws;
 pub mod layout;
 pub mod memory;
 pub mod plain;
