@@ -7,7 +7,7 @@ use lib.ListN.{length}
 use Rattle.vring.specs.Rings.{Ring, ring-ok}
 use Rattle.device.specs.Device.{kept-after}
 use Rattle.model.specs.Serving.{State, serve-times, reset}
-use Rattle.model.specs.Promises.{Sound, Job, kept-by, Account}
+use Rattle.model.specs.Promises.{Sound, Job, kept-by, Account, Recovers}
 use Rattle.model.specs.Histories.{Event, writes, serves, resets, after, Possible, Served-well, Throughout, Did, at-end, Over-any-history}
 use Rattle.model.proofs.Serves.{stays-sound, stays-stopped, done-with}
 use Rattle.model.proofs.Asked.{as-asked}
@@ -49,3 +49,6 @@ contents r b (resets ∷ es) h p = contents r (after r b resets) es (reset-sound
 
 pub over-any-history : Over-any-history
 over-any-history r b es h p = (throughout r b es h p, contents r b es h p)
+
+pub recovers : Recovers
+recovers r b m h e = (record { stands = e; kept-len = h .kept-len; count = omega arith }, refl, refl, refl, refl)

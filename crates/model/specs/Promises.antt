@@ -96,9 +96,11 @@ Done-with =
     (r : Ring) (b : State) (n : ℕ) → Sound r b → waits r b ≤ n →
     (serve-times n r b .device .stopped ≡ true) ⊎ (waits r (serve-times n r b) ≡ 0)
 
--- reset, with whatever memory the ring stands in, it is as it should be
+-- reset, with whatever memory the ring stands in, the device has served none and has not stopped, and its contents stay
 abbrev pub Recovers : Type 0
-Recovers = (r : Ring) (b : State) (m : List ℕ) → Sound r b → ring-ok r (length m) ≡ true → Sound r (reset m b)
+Recovers =
+    (r : Ring) (b : State) (m : List ℕ) → Sound r b → ring-ok r (length m) ≡ true →
+    Sound r (reset m b) × (reset m b .memory ≡ m) × (reset m b .device .served ≡ 0) × (reset m b .device .stopped ≡ false) × (reset m b .device .kept ≡ b .device .kept)
 
 -- ## A guest that keeps to the rules
 -- n chains wait, all may be served, and none writes what a later one reads

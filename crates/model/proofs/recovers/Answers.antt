@@ -1,0 +1,5 @@
+use Rattle.model.proofs.Runs.{recovers}
+use Rattle.model.proofs.recovers.Needs as need
+
+pub returns : need.returns
+returns c = recovers
