@@ -72,7 +72,8 @@ impl<'l, 'm, M: GuestMemory> View<'l, 'm, M> {
 }
 
 impl<'l, 'm, M> View<'l, 'm, M> {
-    // The guest memory again, for as long as it was borrowed. The view is spent.
+    // The guest memory again, for as long as it was borrowed; the view is spent. It is proved by hand: no proof is generated for a `&mut` that is
+    // handed on from two fields deep.
     pub fn into_memory(self) -> &'m mut M
         ensures value { λ r. ⌜ now r ≡ now (self .entry .queue .memory) ⌝ }
         ensures same { λ r. ⌜ name r ≡ name (self .entry .queue .memory) ⌝ }

@@ -17,6 +17,7 @@ use Rattle.serving.proofs.Sights.{walk-bad, walk-good, next-bad, next-unusable
 use Rattle.serving.proofs.look.take_next.Needs as need
 use Rattle.serving.proofs.look.take_next.Needs.{then-not-good·by·then-not-good, then-not-good·by·else-not-good·then-not-is-usable}
 
+-- In both: the view's reads are those of the program (e, e₁, f, k₁), and the reference that it hands on is the one that was lent to it (o), so that memory is at the end what the last call left (y).
 pub returns-then-not-good : need.returns-then-not-good
 returns-then-not-good g c =
     let acts = g .M·GuestMemory .acts in let r = ring-of (c .args .layout .now) in let m = c .args .m .now in let n = g .M·GuestMemory .holds m in
@@ -31,12 +32,14 @@ returns-then-not-good g c =
     elim (c .then-not-good .came) [
       | then-not-good·by·then-not-good w ↦
           let b = next-bad acts r n (c .args .served) h m m₁ _ e e₁ _ refl k₁ (walk-bad _ _ _ _ (w .if-not-good .taken) f) in
-          let y : c .then-not-good .m ≡ c .into-memory-m .result .now = w .m-is ∙ search (needs, o) in record { value = sees-halt _ _ (b .0); then = y ∙ b .1; within = λ a. absurd (not-ready _ (inr refl) a); size = ap (g .M·GuestMemory .holds) y ∙ z }
+          let y : c .then-not-good .m ≡ c .into-memory-m .result .now = w .m-is ∙ search (needs, o) in
+          record { value = sees-halt _ _ (b .0); then = y ∙ b .1; within = λ a. absurd (not-ready _ (inr refl) a); size = ap (g .M·GuestMemory .holds) y ∙ z }
       | then-not-good·by·else-not-good·then-not-is-usable w ↦
           let l : w .len .result ≡ n = cc in
           let u = ap₂ (λ x k. usable (x ∷ []) k false (listed (c .follow-good .last .out))) (sym (w .region-of .ensures)) (sym l) ∙ sym (w .if-not-is-usable .ensures tt) in
           let b = next-unusable acts r n (c .args .served) h m m₁ _ e e₁ _ refl k₁ _ (walk-good _ _ _ _ (c .clear .ensures .items) (w .if-not-good .left) f) u in
-          let y : c .then-not-good .m ≡ c .into-memory-m .result .now = w .m-is ∙ search (needs, o) in record { value = sees-halt _ _ (b .0); then = y ∙ b .1; within = λ a. absurd (not-ready _ (inr refl) a); size = ap (g .M·GuestMemory .holds) y ∙ z }
+          let y : c .then-not-good .m ≡ c .into-memory-m .result .now = w .m-is ∙ search (needs, o) in
+          record { value = sees-halt _ _ (b .0); then = y ∙ b .1; within = λ a. absurd (not-ready _ (inr refl) a); size = ap (g .M·GuestMemory .holds) y ∙ z }
     ]
 
 pub gather-job-requires : need.gather-job-requires
@@ -59,4 +62,5 @@ returns g c =
     let l : c .len .result ≡ n = cc in
     let u = ap₂ (λ x k. usable (x ∷ []) k false (listed (c .follow-good .last .out))) (sym (c .region-of .ensures)) (sym l) ∙ sym (c .if-not-is-usable .ensures tt) in
     let b = next-ready acts r n (c .args .served) h m m₁ _ e e₁ _ refl k₁ _ _ _ (walk-good _ _ _ _ (c .clear .ensures .items) (c .if-not-good .left) f) u (c .gather-job .ensures .value) (c .gather-job .ensures .then) in
-    let y = c .m-2·1 .given .1 o in record { value = sees-ready _ _ (b .0); then = search (needs, o, b .1); within = λ a. within-all _ _ _ (all-fit _ _ false _ u); size = ap (g .M·GuestMemory .holds) y ∙ c .gather-job .ensures .size ∙ z }
+    let y = c .gather-job .ensures .size ∙ z in
+    record { value = sees-ready _ _ (b .0); then = search (needs, o, b .1); within = λ a. within-all _ _ _ (all-fit _ _ false _ u); size = search (needs, o, y) }
