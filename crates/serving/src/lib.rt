@@ -4,3 +4,4 @@ pub mod entries;
 pub mod job;
 pub mod look;
 pub mod turn;
+pub mod view;

@@ -11,9 +11,8 @@ ghost use Rattle.serving.specs.Turns.{look-prog, next-prog};
 ghost use Rattle.serving.specs.Sees.{Sees};
 use crate::job::Job;
 use crate::job::Seen;
-use chains::follow::follow;
+use crate::view::View;
 use chains::ring_parts::region_of;
-use chains::ring_parts::table_of;
 use transfer::gather::gather;
 use vring::layout::Layout;
 use vring::memory::GuestMemory;
@@ -44,15 +43,11 @@ fn take_next<M: GuestMemory>(layout: &Layout, m: &mut M, served: u16, job: &mut 
     ensures within { λ s. ⌜ (s ≡ Ready → Within (holds (now (m .entry))) (listed (now (job .exit) .chain))) ⌝ }
     ensures size { λ _. ⌜ holds (now (m .exit)) ≡ holds (now (m .entry)) ⌝ }
 {
-    job.head = m.number(layout.head_at(served));
+    let mut view = View::next(layout, m, served);
+    job.head = view.head;
     job.chain.clear();
-    let good = follow(
-        &table_of(layout),
-        m,
-        job.head as usize,
-        layout.size,
-        &mut job.chain,
-    );
+    let good = view.follow(&mut job.chain);
+    let m = view.into_memory();
     if !good || !job.chain.is_usable(&[region_of(layout)], m.len()) {
         return Seen::Halt;
     }
