@@ -1,5 +1,5 @@
 // A view of one chain: guest memory and the ring in it, borrowed while the chain is followed.
-ghost use Prim.Native.Nat.{_+_, _*_, _<_, _≤_};
+ghost use Prim.Native.Nat.{_≤_};
 ghost use denote.Ref.{name};
 ghost use mathlib.Core.Path.{_≡_};
 ghost use Rattle.vring.specs.Programs.{pair, ends, leaves};
@@ -72,8 +72,8 @@ impl<'l, 'm, M: GuestMemory> View<'l, 'm, M> {
 }
 
 impl<'l, 'm, M> View<'l, 'm, M> {
-    // The guest memory again, for as long as it was borrowed; the view is spent. It is proved by hand: no proof is generated for a `&mut` that is
-    // handed on from two fields deep.
+    // The guest memory again, for as long as it was borrowed; the view is spent.
+    // It is proved by hand: no proof is generated where a `&mut` is handed on from two fields deep.
     pub fn into_memory(self) -> &'m mut M
         ensures value { λ r. ⌜ now r ≡ now (self .entry .queue .memory) ⌝ }
         ensures same { λ r. ⌜ name r ≡ name (self .entry .queue .memory) ⌝ }
