@@ -54,7 +54,9 @@ pub fn respond(kept: &mut [u8], q: &Request) -> Response
         return Response::block(&kept[at..at + 16]);
     }
     if is_write(kept, q) {
-        kept[at..at + 16].copy_from_slice(&q.bytes[2..18]);
+        let mut block = [0; 16];
+        block.copy_from_slice(&q.bytes[2..18]);
+        kept[at..at + 16].copy_from_slice(&block);
         return Response::status(0);
     }
     Response::status(255)

@@ -9,9 +9,9 @@ use transfer::request::Request;
 // A chain to be served, all of it as it was read. One is made for a call and used for each of its servings.
 #[derive(Drop)]
 pub struct Job {
-    pub head: u16,
     pub chain: Chain,
     pub request: Request,
+    pub head: u16,
 }
 
 #[derive(Clone, Copy)]
@@ -32,9 +32,9 @@ impl Job {
         ensures request { λ j. ⌜ held (j .request) ≡ [] ⌝ }
     {
         Job {
-            head: 0,
             chain: Chain::new(),
             request: Request::new(),
+            head: 0,
         }
     }
 }

@@ -51,6 +51,6 @@ fn take_next<M: GuestMemory>(layout: &Layout, m: &mut M, served: u16, job: &mut 
     if !good || !job.chain.is_usable(&[region_of(layout)], m.len()) {
         return Seen::Halt;
     }
-    job.request = gather(m, &job.chain);
+    gather(m, &job.chain, &mut job.request);
     Seen::Ready
 }

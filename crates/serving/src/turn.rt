@@ -91,7 +91,8 @@ pub fn run<M: GuestMemory>(
     ensures then { λ _. ⌜ now (m .exit) ≡ leaves acts (run-prog times (ring-of (now (layout .entry))) (holds (now (m .entry))) (device-of (now (progress .entry)) (now (kept .entry)))) (now (m .entry)) ⌝ }
     ensures size { λ _. ⌜ holds (now (m .exit)) ≡ holds (now (m .entry)) ⌝ }
 {
-    if times > 0 && turn(layout, m, progress, kept, job) {
-        run(layout, m, progress, kept, job, times - 1);
+    let mut left = times;
+    while left > 0 && turn(layout, m, progress, kept, job) {
+        left -= 1;
     }
 }

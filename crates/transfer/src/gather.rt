@@ -23,6 +23,14 @@ impl Request {
         }
     }
 
+    // Has no bytes any more.
+    fn clear(&mut self)
+        ensures items { λ _. ⌜ held (now (self .exit)) ≡ [] ⌝ }
+        ensures len { λ _. ⌜ now (self .exit) .len ≡ 0 ⌝ }
+    {
+        self.len = 0;
+    }
+
     // One byte more.
     fn push(&mut self, b: u8)
         requires { ⌜ now self .len < 19 ⌝ }
@@ -50,19 +58,18 @@ fn take_bytes<M: GuestMemory>(m: &mut M, at: usize, n: usize, out: &mut Request)
     take_bytes(m, at + 1, n - 1, out);
 }
 
-// The first bytes of what a chain asks.
-pub fn gather<M: GuestMemory>(m: &mut M, chain: &Chain) -> Request
+// The first bytes of what a chain asks, into `out`.
+pub fn gather<M: GuestMemory>(m: &mut M, chain: &Chain, out: &mut Request)
     requires { ⌜ Within (holds (now m)) (listed (now chain)) ⌝ }
-    ensures value { λ q. ⌜ held q ≡ ends acts (request-prog 19 (listed (now (chain .entry)))) (now (m .entry)) ⌝ }
+    ensures value { λ _. ⌜ held (now (out .exit)) ≡ ends acts (request-prog 19 (listed (now (chain .entry)))) (now (m .entry)) ⌝ }
     ensures then { λ _. ⌜ now (m .exit) ≡ leaves acts (request-prog 19 (listed (now (chain .entry)))) (now (m .entry)) ⌝ }
     ensures size { λ _. ⌜ holds (now (m .exit)) ≡ holds (now (m .entry)) ⌝ }
 {
-    let mut out = Request::new();
+    out.clear();
     for d in &chain.at[..chain.len] {
         if !d.is_writable() {
             let n = (d.len as usize).min(19 - out.len);
-            take_bytes(m, d.addr as usize, n, &mut out);
+            take_bytes(m, d.addr as usize, n, out);
         }
     }
-    out
 }

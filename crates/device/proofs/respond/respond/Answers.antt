@@ -21,8 +21,8 @@ returns-then-is-read c =
     let e : at + 16 - at ≡ 16 = omega arith in
     record { value = c .block .ensures ∙ (rw e (sym (f .1))); after = sym (f .2) }
 
-pub part-copy-from-slice-end : need.part-copy-from-slice-end
-part-copy-from-slice-end c =
+pub part-copy-from-slice-end-then-is-write-2 : need.part-copy-from-slice-end-then-is-write-2
+part-copy-from-slice-end-then-is-write-2 c =
     let q = c .args .q .now in
     let f = write-found (c .args .kept .now) (q .bytes) (q .len) (omega (arith, q .few)) (sym (c .if-is-write .ensures tt)) in
     search (needs, f .0)
@@ -32,7 +32,7 @@ returns-then-is-write c =
     let q = c .args .q .now in let at = 16 * getD (q .bytes) 1 0 in
     let f = write-found (c .args .kept .now) (q .bytes) (q .len) (omega (arith, q .few)) (sym (c .if-is-write .ensures tt)) in
     let l : length (take 16 (drop 2 (q .bytes))) ≡ 16 = length-take-le 16 (drop 2 (q .bytes)) (rw length-drop (omega arith)) in
-    record { value = c .status .ensures ∙ sym (f .1); after = put-middle (c .args .kept .now) (c .copy-from-slice .last .self) (take 16 (drop 2 (q .bytes))) at _ (c .copy-from-slice .ensures .after) (omega arith) ∙ sym (f .2) }
+    record { value = c .status .ensures ∙ sym (f .1); after = put-middle (c .args .kept .now) (c .copy-from-slice-then-is-write .last .self) (take 16 (drop 2 (q .bytes))) at _ (c .copy-from-slice-then-is-write .ensures .after ∙ c .copy-from-slice .ensures .after) (omega arith) ∙ sym (f .2) }
 
 pub returns : need.returns
 returns c =

@@ -42,8 +42,8 @@ returns-then-not-good g c =
           record { value = sees-halt _ _ (b .0); then = y ∙ b .1; within = λ a. absurd (not-ready _ (inr refl) a); size = ap (g .M·GuestMemory .holds) y ∙ z }
     ]
 
-pub gather-job-requires : need.gather-job-requires
-gather-job-requires g c κs =
+pub gather-requires : need.gather-requires
+gather-requires g c κs =
     let e : c .len .result ≡ g .M·GuestMemory .holds (c .into-memory-m .result .now) = c .len .ensures in
     let u = sym (c .if-not-is-usable .ensures tt) in
     within-all _ _ _ (all-fit _ _ false _ (ap (λ k. usable (c .region-of .result ∷ []) k false (listed (c .follow-good .last .out))) (sym e) ∙ u))
@@ -61,6 +61,6 @@ returns g c =
     let z = ap (g .M·GuestMemory .holds) (c .into-memory-m .ensures .value) ∙ c .follow-good .ensures .size ∙ c .next-view .ensures .size in
     let l : c .len .result ≡ n = cc in
     let u = ap₂ (λ x k. usable (x ∷ []) k false (listed (c .follow-good .last .out))) (sym (c .region-of .ensures)) (sym l) ∙ sym (c .if-not-is-usable .ensures tt) in
-    let b = next-ready acts r n (c .args .served) h m m₁ _ e e₁ _ refl k₁ _ _ _ (walk-good _ _ _ _ (c .clear .ensures .items) (c .if-not-good .left) f) u (c .gather-job .ensures .value) (c .gather-job .ensures .then) in
-    let y = c .gather-job .ensures .size ∙ z in
+    let b = next-ready acts r n (c .args .served) h m m₁ _ e e₁ _ refl k₁ _ _ _ (walk-good _ _ _ _ (c .clear .ensures .items) (c .if-not-good .left) f) u (c .gather .ensures .value) (c .gather .ensures .then) in
+    let y = c .gather .ensures .size ∙ z in
     record { value = sees-ready _ _ (b .0); then = search (needs, o, b .1); within = λ a. within-all _ _ _ (all-fit _ _ false _ u); size = search (needs, o, y) }

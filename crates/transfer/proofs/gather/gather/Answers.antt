@@ -13,7 +13,7 @@ use Rattle.transfer.proofs.Gathers.{gather-skip, gather-read}
 use Rattle.transfer.proofs.gather.gather.Needs as need
 
 pub loop-d-holds : need.loop-d-holds
-loop-d-holds g c = rw (c .new-out .ensures .items, c .new-out .ensures .len) (refl, refl, refl)
+loop-d-holds g c = rw (c .clear .ensures .items, c .clear .ensures .len) (refl, refl, refl)
 
 pub loop-d-again : need.loop-d-again
 loop-d-again g c =
