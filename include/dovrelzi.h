@@ -16,9 +16,9 @@
  *   - A pointer that is passed with a length other than 0 is not null, and as many elements as the length says may be read there, and
  *     written where the parameter is not const. With length 0 any pointer will do, a null pointer too.
  *   - `state` points at numbers that are aligned as any uint32_t.
- *   - `memory`, `state`, `kept` and `answers` of one call do not overlap.
- *   - While a call runs nothing else reads or writes what `memory`, `state` and `kept` point at; of `const` memory, and of `answers`, it is
- *     enough that nothing else writes it. A guest is not to run meanwhile.
+ *   - `memory`, `state` and `kept` of one call do not overlap.
+ *   - While a call runs nothing else reads or writes what `memory`, `state` and `kept` point at; of `const` memory it is enough that nothing
+ *     else writes it. A guest is not to run meanwhile.
  *
  * Threads
  *
@@ -45,11 +45,10 @@ extern "C" {
 #define DOVRELZI_REFUSED 3u /* nothing was done or changed; `value` is the number of the refusal */
 
 /* The refusals: the first of these that applies. */
-#define DOVRELZI_REFUSED_RING 1u    /* places other than 1, 2, 4, 8, 16, 32 or 64; a ring not wholly in memory; memory of more than 65,536 bytes */
-#define DOVRELZI_REFUSED_STATE 2u   /* state that is not two numbers, the first below 65,536, the second 0 or 1 */
-#define DOVRELZI_REFUSED_KEPT 3u    /* contents of more than 4,096 bytes */
-#define DOVRELZI_REFUSED_TIMES 4u   /* more than 1,000 servings in one call */
-#define DOVRELZI_REFUSED_ANSWERS 6u /* dovrelzi_serve_racing alone: fewer answers than it may read. There is no 5 here */
+#define DOVRELZI_REFUSED_RING 1u  /* places other than 1, 2, 4, 8, 16, 32 or 64; a ring not wholly in memory; memory of more than 65,536 bytes */
+#define DOVRELZI_REFUSED_STATE 2u /* state that is not two numbers, the first below 65,536, the second 0 or 1 */
+#define DOVRELZI_REFUSED_KEPT 3u  /* contents of more than 4,096 bytes */
+#define DOVRELZI_REFUSED_TIMES 4u /* more than 1,000 servings in one call */
 
 /* The limits. */
 #define DOVRELZI_MAX_PLACES 64u
@@ -88,28 +87,6 @@ typedef struct DovrelziPart {
  */
 DovrelziDone dovrelzi_serve(uint64_t places, uint64_t begins, uint8_t *memory, size_t memory_len, uint32_t *state, size_t state_len,
                             uint8_t *kept, size_t kept_len, uint64_t times);
-
-/*
- * Serves a guest that goes on writing while it is served, for tests: to see what the device does with a guest that changes what it offered
- * between one read and the next. No guest runs. Instead the caller says what each read finds: the k-th byte that is read of guest memory is
- * the k-th of `answers`, whatever stands in `memory`. A number is read as two bytes, the lower first, so it may be torn.
- *
- *   answers, answers_len   the bytes that are found, at least times * (23 + 8 * places) + 2 of them; they are only read
- *
- * The others are those of dovrelzi_serve, and so is what is changed: of each chain that is served, as it was read, bytes in the parts of
- * its writable descriptors, its used entry and the used count, in `memory`; the state; and the contents. Where each byte that is read is
- * the one that then stands in `memory`, the call does and answers the same as dovrelzi_serve.
- *
- * What is read, in this order: the available count; where something waits, the head; of each descriptor its address, length and flags, and
- * `next` only where the flags say that another follows; then the first bytes of the request, at most nineteen. No descriptor is read twice
- * for one chain: a chain that comes back to one is bad. A descriptor is checked as soon as it is read, and where the device stops nothing
- * more is read. Behind the last serving the available count is read once more, for the answer.
- *
- * Answers as dovrelzi_serve does, or DOVRELZI_REFUSED with DOVRELZI_REFUSED_ANSWERS where none of the other refusals applies and there are
- * too few answers; then too nothing is changed.
- */
-DovrelziDone dovrelzi_serve_racing(uint64_t places, uint64_t begins, uint8_t *memory, size_t memory_len, uint32_t *state, size_t state_len,
-                                   uint8_t *kept, size_t kept_len, uint64_t times, const uint8_t *answers, size_t answers_len);
 
 /*
  * Resets the device: both numbers of the state become 0, whatever they are. The contents stay with the caller, unchanged.

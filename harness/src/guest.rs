@@ -1,10 +1,8 @@
 //! Guests: memory with a ring in it, and what they put there, well and badly meant.
 use crate::random::Random;
 
-/// The flag that says that another descriptor follows.
-pub const NEXT: u16 = 1;
-/// The flag that says that the device writes the part.
-pub const WRITE: u16 = 2;
+const NEXT: u16 = 1;
+const WRITE: u16 = 2;
 const SIZES: [usize; 7] = [1, 2, 4, 8, 16, 32, 64];
 
 /// All that one call of the library is lent, and its numbers.
@@ -51,13 +49,11 @@ impl Guest {
         }
     }
 
-    /// How many places the ring has.
-    pub fn n(&self) -> usize {
+    fn n(&self) -> usize {
         self.places as usize
     }
 
-    /// Where the ring begins.
-    pub fn base(&self) -> usize {
+    fn base(&self) -> usize {
         self.begins as usize
     }
 
@@ -121,7 +117,7 @@ impl Guest {
     }
 
     /// An address at a border of the ring or of memory, or next to one.
-    pub fn border(&self, rng: &mut Random) -> usize {
+    fn border(&self, rng: &mut Random) -> usize {
         let border = rng.pick(&[0, self.base(), self.end(), self.memory.len()]);
         (border + rng.below(3)).saturating_sub(1)
     }
@@ -249,7 +245,7 @@ impl Guest {
     }
 
     /// A place outside the ring for so many bytes, often right at a border; where there is none, any.
-    pub fn place(&self, rng: &mut Random, len: usize) -> usize {
+    fn place(&self, rng: &mut Random, len: usize) -> usize {
         let (base, end, all) = (self.base(), self.end(), self.memory.len());
         let before = base.checked_sub(len);
         let behind = (all - end).checked_sub(len);
@@ -381,7 +377,7 @@ fn chain_len(rng: &mut Random, most: usize) -> usize {
 }
 
 /// A request, mostly one that the device knows, or nearly so.
-pub fn some_request(rng: &mut Random, kept: usize) -> Vec<u8> {
+fn some_request(rng: &mut Random, kept: usize) -> Vec<u8> {
     let blocks = kept / 16;
     let k = match rng.below(8) {
         0 => blocks,

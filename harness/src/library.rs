@@ -1,6 +1,5 @@
 //! The proved library, by its C functions.
 use crate::answers::{Done, Part};
-use crate::guest::Guest;
 
 #[repr(C)]
 struct DovrelziDone {
@@ -27,20 +26,6 @@ extern "C" {
         kept: *mut u8,
         kept_len: usize,
         times: u64,
-    ) -> DovrelziDone;
-    #[allow(clippy::too_many_arguments)]
-    fn dovrelzi_serve_racing(
-        places: u64,
-        begins: u64,
-        memory: *mut u8,
-        memory_len: usize,
-        state: *mut u32,
-        state_len: usize,
-        kept: *mut u8,
-        kept_len: usize,
-        times: u64,
-        answers: *const u8,
-        answers_len: usize,
     ) -> DovrelziDone;
     fn dovrelzi_begin_anew(state: *mut u32, state_len: usize) -> DovrelziDone;
     fn dovrelzi_piece(places: u64, begins: u64, memory: *const u8, memory_len: usize, at: u64) -> DovrelziPart;
@@ -80,7 +65,7 @@ pub fn serve(places: u64, begins: u64, memory: &mut [u8], state: &mut [u32], kep
 /// # Safety
 /// At `memory` there are as many bytes as the guest's memory has, and nothing in Rust refers to them during the call.
 #[cfg(all(target_os = "linux", target_arch = "x86_64"))]
-pub unsafe fn serve_at(memory: *mut u8, guest: &mut Guest, times: u64) -> Done {
+pub unsafe fn serve_at(memory: *mut u8, guest: &mut crate::guest::Guest, times: u64) -> Done {
     done_of(dovrelzi_serve(
         guest.places,
         guest.begins,
@@ -91,26 +76,6 @@ pub unsafe fn serve_at(memory: *mut u8, guest: &mut Guest, times: u64) -> Done {
         guest.kept.as_mut_ptr(),
         guest.kept.len(),
         times,
-    ))
-}
-
-/// Serves a guest that goes on writing: what is read of its memory are the bytes at `answers`, so many of them.
-///
-/// # Safety
-/// As many of those bytes as are read may be read there during the call.
-pub unsafe fn serve_racing(guest: &mut Guest, times: u64, answers: *const u8, answers_len: usize) -> Done {
-    done_of(dovrelzi_serve_racing(
-        guest.places,
-        guest.begins,
-        guest.memory.as_mut_ptr(),
-        guest.memory.len(),
-        guest.state.as_mut_ptr(),
-        guest.state.len(),
-        guest.kept.as_mut_ptr(),
-        guest.kept.len(),
-        times,
-        answers,
-        answers_len,
     ))
 }
 

@@ -1,5 +1,4 @@
-//! harness test [ROUNDS] [SEED]    compares the proved library with a plain reading of the rules, one round in four with a guest that goes
-//!                                 on writing
+//! harness test [ROUNDS] [SEED]    compares the proved library with a plain reading of the rules
 //! harness bench                   measures it beside a safe Rust implementation written for speed
 use std::env;
 use std::process::ExitCode;
@@ -7,21 +6,12 @@ use std::time::{SystemTime, UNIX_EPOCH};
 
 mod answers;
 mod bench;
-#[cfg(all(target_os = "linux", target_arch = "x86_64"))]
-mod edge;
-#[cfg(not(all(target_os = "linux", target_arch = "x86_64")))]
-#[path = "no_edge.rs"]
-mod edge;
 mod fast;
 mod guest;
 mod library;
-#[cfg(all(target_os = "linux", target_arch = "x86_64"))]
-mod pages;
-mod race;
 mod random;
 mod rules;
 mod tally;
-mod teller;
 mod test;
 #[cfg(all(target_os = "linux", target_arch = "x86_64"))]
 mod watch;

@@ -1,30 +1,26 @@
 //! A plain reading of docs/RULES.md: sentence by sentence, with no care for speed.
 use crate::answers::{Done, Part};
-use crate::guest::Guest;
 use crate::tally::{Event, Shape, Tally};
 
 const NEXT: usize = 1;
 const WRITE: usize = 2;
 
 /// A ring of `n` places that stands in memory from `base` on.
-pub struct Ring {
-    pub n: usize,
-    pub base: usize,
+struct Ring {
+    n: usize,
+    base: usize,
 }
 
 impl Ring {
-    /// Where descriptor `i` stands.
-    pub fn descriptor(&self, i: usize) -> usize {
+    fn descriptor(&self, i: usize) -> usize {
         self.base + 8 * i
     }
 
-    /// Where the available count stands.
-    pub fn available_count(&self) -> usize {
+    fn available_count(&self) -> usize {
         self.base + 8 * self.n
     }
 
-    /// Where the head of the k-th chain stands.
-    pub fn head(&self, k: usize) -> usize {
+    fn head(&self, k: usize) -> usize {
         self.available_count() + 2 + 2 * (k % self.n)
     }
 
@@ -42,28 +38,24 @@ impl Ring {
     }
 }
 
-/// A descriptor as it was read.
 #[derive(Clone, Copy)]
-pub struct Descriptor {
-    pub address: usize,
-    pub length: usize,
-    pub flags: usize,
-    pub next: usize,
+struct Descriptor {
+    address: usize,
+    length: usize,
+    flags: usize,
+    next: usize,
 }
 
 impl Descriptor {
-    /// Whether another follows.
-    pub fn has_next(&self) -> bool {
+    fn has_next(&self) -> bool {
         self.flags & NEXT != 0
     }
 
-    /// Whether the device writes its part.
-    pub fn is_writable(&self) -> bool {
+    fn is_writable(&self) -> bool {
         self.flags & WRITE != 0
     }
 
-    /// The first address behind its part.
-    pub fn end(&self) -> usize {
+    fn end(&self) -> usize {
         self.address + self.length
     }
 
@@ -76,8 +68,7 @@ impl Descriptor {
     }
 }
 
-/// The number at an address.
-pub fn number(memory: &[u8], at: usize) -> usize {
+fn number(memory: &[u8], at: usize) -> usize {
     memory[at] as usize + 256 * memory[at + 1] as usize
 }
 
@@ -118,8 +109,7 @@ fn chain(memory: &[u8], ring: &Ring, head: usize, tally: &mut Tally) -> Option<V
     }
 }
 
-/// Whether descriptors that follow one another keep the rules of a chain that may be served.
-pub fn may_be_served(chain: &[Descriptor], ring: &Ring, len: usize, tally: &mut Tally) -> bool {
+fn may_be_served(chain: &[Descriptor], ring: &Ring, len: usize, tally: &mut Tally) -> bool {
     if !chain.iter().all(|d| d.lies_in_memory(len)) {
         tally.note(Event::PartOutside);
         return false;
@@ -177,39 +167,8 @@ fn write_response(memory: &mut [u8], chain: &[Descriptor], response: &[u8]) {
     }
 }
 
-/// What waits by an available count, of a device that has served so many.
-pub fn waiting(count: usize, served: usize) -> usize {
-    (count + 65536 - served) % 65536
-}
-
 fn waits(memory: &[u8], ring: &Ring, served: usize) -> usize {
-    waiting(number(memory, ring.available_count()), served)
-}
-
-/// A chain that is to be served.
-pub struct Job {
-    pub head: usize,
-    pub chain: Vec<Descriptor>,
-    pub request: Vec<u8>,
-}
-
-/// Answers a job: the response goes into the chain, and the chain is used.
-pub fn complete(memory: &mut [u8], ring: &Ring, state: &mut [u32], kept: &mut [u8], job: &Job, tally: &mut Tally) {
-    let mut response = answer(kept, &job.request, tally);
-    if response.len() > capacity(&job.chain) {
-        tally.note(Event::ResponseCut);
-        response.truncate(capacity(&job.chain));
-    }
-    write_response(memory, &job.chain, &response);
-    let served = state[0] as usize;
-    put_number(memory, ring.used_entry(served), job.head);
-    put_number(memory, ring.used_entry(served) + 2, response.len());
-    let now = (served + 1) % 65536;
-    if now == 0 {
-        tally.note(Event::CountGoesRound);
-    }
-    put_number(memory, ring.used_count(), now);
-    state[0] = now as u32;
+    (number(memory, ring.available_count()) + 65536 - served) % 65536
 }
 
 /// One serving: true where a chain was served.
@@ -235,14 +194,26 @@ fn serve_one(memory: &mut [u8], ring: &Ring, state: &mut [u32], kept: &mut [u8],
         state[1] = 1;
         return false;
     };
-    tally.note_served(&shape(&chain, ring, memory.len()), waiting);
-    let request = request(memory, &chain);
-    complete(memory, ring, state, kept, &Job { head, chain, request }, tally);
+    tally.note_served(&sizes(&chain, ring, memory.len()), waiting);
+    let mut response = answer(kept, &request(memory, &chain), tally);
+    if response.len() > capacity(&chain) {
+        tally.note(Event::ResponseCut);
+        response.truncate(capacity(&chain));
+    }
+    write_response(memory, &chain, &response);
+    put_number(memory, ring.used_entry(served), head);
+    put_number(memory, ring.used_entry(served) + 2, response.len());
+    let now = (served + 1) % 65536;
+    if now == 0 {
+        tally.note(Event::CountGoesRound);
+    }
+    put_number(memory, ring.used_count(), now);
+    state[0] = now as u32;
     true
 }
 
 /// What the tally asks about a chain that is served.
-pub fn shape(chain: &[Descriptor], ring: &Ring, len: usize) -> Shape {
+fn sizes(chain: &[Descriptor], ring: &Ring, len: usize) -> Shape {
     let writable: Vec<&Descriptor> = chain.iter().filter(|d| d.is_writable() && d.length > 0).collect();
     let overlap = |a: &Descriptor, b: &Descriptor| a.address < b.end() && b.address < a.end();
     Shape {
@@ -276,28 +247,20 @@ fn is_state(state: &[u32]) -> bool {
     state.len() == 2 && state[0] < 65536 && state[1] <= 1
 }
 
-/// The ring of a call that is not refused, or the number of the refusal.
-pub fn admit(guest: &Guest, times: u64) -> Result<Ring, u64> {
-    let ring = ring_of(guest.places, guest.begins, guest.memory.len()).ok_or(1u64)?;
-    if !is_state(&guest.state) {
-        return Err(2);
+/// Serves the chains of a ring, at most `times` of them.
+pub fn serve(places: u64, begins: u64, memory: &mut [u8], state: &mut [u32], kept: &mut [u8], times: u64, tally: &mut Tally) -> Done {
+    let Some(ring) = ring_of(places, begins, memory.len()) else {
+        return tally.refused(1);
+    };
+    if !is_state(state) {
+        return tally.refused(2);
     }
-    if guest.kept.len() > 4096 {
-        return Err(3);
+    if kept.len() > 4096 {
+        return tally.refused(3);
     }
     if times > 1000 {
-        return Err(4);
+        return tally.refused(4);
     }
-    Ok(ring)
-}
-
-/// Serves the chains of a ring, at most `times` of them.
-pub fn serve(guest: &mut Guest, times: u64, tally: &mut Tally) -> Done {
-    let ring = match admit(guest, times) {
-        Ok(ring) => ring,
-        Err(number) => return tally.refused(number),
-    };
-    let Guest { memory, state, kept, .. } = guest;
     for _ in 0..times {
         if !serve_one(memory, &ring, state, kept, tally) {
             break;

@@ -29,26 +29,9 @@ pub enum Event {
     RefusedState,
     RefusedKept,
     RefusedTimes,
-    Raced,
-    Stopped,
-    ComesBack,
-    LongRequest,
-    RefusedAnswers,
-    OneAnswerTooFew,
-    JustAsManyAnswers,
-    MoreAnswers,
-    RandomAnswers,
-    TrueAnswers,
-    ChangedAnswers,
-    MadeAnswers,
-    AnswersComeBack,
 }
 
-/// How many events there are.
-const EVENTS: usize = Event::AnswersComeBack as usize + 1;
-
-/// The events of servings.
-const SERVINGS: [Event; 25] = [
+const EVENTS: [Event; 25] = [
     Event::Served,
     Event::NothingWaits,
     Event::WasStopped,
@@ -76,47 +59,6 @@ const SERVINGS: [Event; 25] = [
     Event::RefusedTimes,
 ];
 
-/// The events of servings of a guest that goes on writing.
-const RACES: [Event; 37] = [
-    Event::Raced,
-    Event::Served,
-    Event::Stopped,
-    Event::RefusedAnswers,
-    Event::NothingWaits,
-    Event::WasStopped,
-    Event::TooManyWait,
-    Event::AsManyWaitAsPlaces,
-    Event::BadIndex,
-    Event::ComesBack,
-    Event::ChainOfAllPlaces,
-    Event::ChainOfAll64Places,
-    Event::PartOutside,
-    Event::PartInRing,
-    Event::PartTouchesRing,
-    Event::EmptyPartAtEnd,
-    Event::ReadableBehindWritable,
-    Event::WritableOverlap,
-    Event::ResponseOverRequest,
-    Event::LongRequest,
-    Event::BlockRead,
-    Event::BlockWritten,
-    Event::UnknownRequest,
-    Event::ResponseCut,
-    Event::CountGoesRound,
-    Event::RefusedRing,
-    Event::RefusedState,
-    Event::RefusedKept,
-    Event::RefusedTimes,
-    Event::OneAnswerTooFew,
-    Event::JustAsManyAnswers,
-    Event::MoreAnswers,
-    Event::RandomAnswers,
-    Event::TrueAnswers,
-    Event::ChangedAnswers,
-    Event::MadeAnswers,
-    Event::AnswersComeBack,
-];
-
 /// A chain that is served, as far as it is counted.
 pub struct Shape {
     pub places: usize,
@@ -127,29 +69,13 @@ pub struct Shape {
     pub writes_request: bool,
 }
 
-/// How often each was met, of those that are to be met.
+/// How often each was met.
+#[derive(Default)]
 pub struct Tally {
-    events: &'static [Event],
-    counts: [u64; EVENTS],
+    counts: [u64; EVENTS.len()],
 }
 
 impl Tally {
-    /// For servings.
-    pub fn of_servings() -> Tally {
-        Tally {
-            events: &SERVINGS,
-            counts: [0; EVENTS],
-        }
-    }
-
-    /// For servings of a guest that goes on writing.
-    pub fn of_races() -> Tally {
-        Tally {
-            events: &RACES,
-            counts: [0; EVENTS],
-        }
-    }
-
     pub fn note(&mut self, event: Event) {
         self.counts[event as usize] += 1;
     }
@@ -171,33 +97,24 @@ impl Tally {
         self.note_if(shape.writes_request, Event::ResponseOverRequest);
     }
 
-    /// Notes how many answers there are of those that a call asks for.
-    pub fn note_answers(&mut self, answers: u64, asked_for: u64) {
-        self.note_if(answers + 1 == asked_for, Event::OneAnswerTooFew);
-        self.note_if(answers == asked_for, Event::JustAsManyAnswers);
-        self.note_if(answers > asked_for, Event::MoreAnswers);
-    }
-
     pub fn refused(&mut self, number: u64) -> Done {
         self.note(match number {
             1 => Event::RefusedRing,
             2 => Event::RefusedState,
             3 => Event::RefusedKept,
-            4 => Event::RefusedTimes,
-            _ => Event::RefusedAnswers,
+            _ => Event::RefusedTimes,
         });
         Done::Refused(number)
     }
 
     /// What was never met.
     pub fn missing(&self) -> Vec<Event> {
-        let events = self.events.iter().copied();
-        events.filter(|e| self.counts[*e as usize] == 0).collect()
+        EVENTS.into_iter().filter(|e| self.counts[*e as usize] == 0).collect()
     }
 
     pub fn print(&self) {
-        for event in self.events {
-            println!("  {:<24}{:>12}", format!("{event:?}"), self.counts[*event as usize]);
+        for event in EVENTS {
+            println!("  {:<24}{:>12}", format!("{event:?}"), self.counts[event as usize]);
         }
     }
 }

@@ -2,19 +2,26 @@
 //! ring. What was read before then is to count, so a length that is read a second time shows. Reads of
 //! the ring are counted too, each at its first byte.
 //!
-//! This looks at the library as it was compiled: dovrelzi_serve promises nothing of a guest that runs meanwhile. Guest memory is kept
+//! This looks at the library as it was compiled: the C functions promise nothing of a guest that runs meanwhile. Guest memory is kept
 //! unreadable; each access to it faults, is noted and let through by one step of the processor. Linux on x86-64 alone.
 use crate::answers::Done;
 use crate::guest::Guest;
 use crate::library;
-use crate::pages::{mprotect, new_pages, set_handler, PROT_NONE, PROT_READ_WRITE, SIGSEGV, SIGTRAP, SIG_DFL};
 use crate::random::Random;
 use crate::rules;
 use crate::tally::Tally;
 use std::ffi::{c_int, c_void};
-use std::ptr::write_volatile;
+use std::mem::zeroed;
+use std::ptr::{null_mut, write_volatile};
 use std::sync::atomic::{AtomicBool, AtomicU32, AtomicUsize, Ordering::Relaxed};
 
+const SIGTRAP: c_int = 5;
+const SIGSEGV: c_int = 11;
+const SA_SIGINFO: c_int = 4;
+const SIG_DFL: usize = 0;
+const PROT_NONE: c_int = 0;
+const PROT_READ_WRITE: c_int = 3;
+const MAP_PRIVATE_ANONYMOUS: c_int = 0x22;
 /// Byte offsets in a siginfo_t, and of the flags and the error code in a ucontext_t.
 const INFO_ADDRESS: usize = 16;
 const CONTEXT_FLAGS: usize = 176;
@@ -22,6 +29,20 @@ const CONTEXT_ERROR: usize = 192;
 const TRAP_FLAG: u64 = 0x100;
 const WAS_WRITE: u64 = 2;
 const PAGES: usize = 65536;
+
+#[repr(C)]
+struct SigAction {
+    handler: usize,
+    mask: [u64; 16],
+    flags: c_int,
+    restorer: usize,
+}
+
+extern "C" {
+    fn mmap(addr: *mut c_void, len: usize, prot: c_int, flags: c_int, fd: c_int, offset: i64) -> *mut c_void;
+    fn mprotect(addr: *mut c_void, len: usize, prot: c_int) -> c_int;
+    fn sigaction(signal: c_int, act: *const SigAction, old: *mut SigAction) -> c_int;
+}
 
 // What the handlers know: where guest memory stands, where the ring, and how often each byte of it was the first of a read.
 static START: AtomicUsize = AtomicUsize::new(0);
@@ -75,6 +96,15 @@ extern "C" fn on_step(_: c_int, _: *mut c_void, context: *mut c_void) {
     }
 }
 
+unsafe fn set_handler(signal: c_int, handler: usize) {
+    let act = SigAction {
+        handler,
+        flags: if handler == SIG_DFL { 0 } else { SA_SIGINFO },
+        ..zeroed()
+    };
+    assert_eq!(sigaction(signal, &act, null_mut()), 0);
+}
+
 /// Guest memory that is watched while it is served.
 struct Watched {
     memory: *mut u8,
@@ -84,11 +114,12 @@ impl Watched {
     fn new() -> Watched {
         // SAFETY: a new mapping, and handlers that only touch it.
         unsafe {
-            let memory = new_pages(PAGES);
+            let memory = mmap(null_mut(), PAGES, PROT_READ_WRITE, MAP_PRIVATE_ANONYMOUS, -1, 0);
+            assert_ne!(memory as isize, -1, "no memory to watch");
             START.store(memory as usize, Relaxed);
             set_handler(SIGSEGV, on_access as *const () as usize);
             set_handler(SIGTRAP, on_step as *const () as usize);
-            Watched { memory }
+            Watched { memory: memory.cast() }
         }
     }
 
@@ -141,15 +172,24 @@ fn round(watched: &Watched, rng: &mut Random) -> Result<bool, String> {
     }
     guest.offer(rng);
     let mut plain = guest.clone();
-    let served = plain.state.clone();
-    let expected = rules::serve(&mut plain, 1, &mut Tally::of_servings());
+    let g = &mut plain;
+    let served = g.state.clone();
+    let expected = rules::serve(
+        g.places,
+        g.begins,
+        &mut g.memory,
+        &mut g.state,
+        &mut g.kept,
+        1,
+        &mut Tally::default(),
+    );
     let found = watched.serve(&mut guest);
-    if found != expected || guest.memory != plain.memory || guest.state != plain.state || guest.kept != plain.kept {
+    if found != expected || guest.memory != g.memory || guest.state != g.state || guest.kept != g.kept {
         return Err(format!(
             "a guest that runs meanwhile: {found:?}, and should be {expected:?}, or memory, state or contents differ"
         ));
     }
-    let was_served = plain.state[0] != served[0];
+    let was_served = g.state[0] != served[0];
     match read_twice() {
         Some(at) if was_served => Err(format!("the byte {at} of the ring is read twice for one chain")),
         _ => Ok(was_served && CHANGED.load(Relaxed)),

@@ -5,7 +5,6 @@ use Rattle.chains.specs.Descriptors.{descriptor_at}
 use Rattle.serving.specs.Entries.{state_in, refusal, ServeSays, Promised, AnewSays, part_ok}
 use Rattle.serving.specs.declared.done.Done.{Done}
 use Rattle.serving.specs.declared.done.Done.TheVariants.{Served, Stopped, Anew, Refused}
-use Rattle.racing.specs.Promises.{race_refusal, RaceSays, PromisedRacing}
 use Rattle.capi.specs.declared.structs.DovrelziDone.{DovrelziDone}
 use Rattle.capi.specs.declared.structs.DovrelziPart.{DovrelziPart}
 
@@ -22,13 +21,6 @@ pub record ServeNumbers (r : Ring) (m s k : List ℕ) (n : ℕ) (d : DovrelziDon
   pub numbers : d ≡ done_numbers answer
   pub does : ServeSays (refusal r m s k n) r m s k n answer m₁ s₁ k₁
   pub promises : refusal r m s k n ≡ 0 → Promised r (state_in m s k) n answer (state_in m₁ s₁ k₁)
-
--- what serving a guest answers that goes on writing: each byte that is read of its memory is the next of xs
-pub record RaceNumbers (r : Ring) (m s k : List ℕ) (n : ℕ) (xs : List ℕ) (d : DovrelziDone) (m₁ s₁ k₁ : List ℕ) : Type 0 where
-  pub answer : Done
-  pub numbers : d ≡ done_numbers answer
-  pub does : RaceSays (race_refusal r m s k n xs) r m s k n xs answer m₁ s₁ k₁
-  pub promises : race_refusal r m s k n xs ≡ 0 → PromisedRacing r (state_in m s k) n xs answer (state_in m₁ s₁ k₁)
 
 -- what a reset answers
 pub record AnewNumbers (s : List ℕ) (d : DovrelziDone) (s₁ : List ℕ) : Type 0 where

@@ -1,11 +1,10 @@
 // The functions that C calls. None asks anything of its arguments: what is wrong with them is refused.
 ghost use Rattle.std.specs.Prelude.{◌≡◌, ◌+◌, ◌*◌, ◌<◌, ◌≤◌, take, drop};
 ghost use Rattle.serving.specs.Entries.{part};
-ghost use Rattle.capi.specs.Numbers.{part_numbers, ServeNumbers, RaceNumbers, AnewNumbers};
+ghost use Rattle.capi.specs.Numbers.{part_numbers, ServeNumbers, AnewNumbers};
 
 use crate::numbers::numbers_of;
 use crate::structs::{DovrelziDone, DovrelziPart};
-use racing::entry::serve_racing;
 use serving::entries::{begin_anew, serve};
 use vring::layout::Layout;
 use vring::words::word_at;
@@ -23,22 +22,6 @@ pub extern "C" fn dovrelzi_serve(
     ensures { ServeNumbers (record { size = places; base = begins }) memory.old state.old kept.old times result memory.new state.new kept.new }
 {
     numbers_of(serve(places, begins, memory, state, kept, times))
-}
-
-// Serves a guest that goes on writing: the k-th byte that is read of its memory is the k-th of `answers`.
-#[unsafe(no_mangle)]
-pub extern "C" fn dovrelzi_serve_racing(
-    places: u64,
-    begins: u64,
-    memory: &mut [u8],
-    state: &mut [u32],
-    kept: &mut [u8],
-    times: u64,
-    answers: &[u8],
-) -> DovrelziDone
-    ensures { RaceNumbers (record { size = places; base = begins }) memory.old state.old kept.old times answers.now result memory.new state.new kept.new }
-{
-    numbers_of(serve_racing(places, begins, memory, state, kept, times, answers))
 }
 
 // Resets the device, whose contents stay.

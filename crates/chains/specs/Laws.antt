@@ -3,7 +3,7 @@ use Rattle.std.specs.Prelude.{◌≡◌, ℕ, ◌+◌, ◌*◌, ◌<◌, ◌≤�
 use Rattle.vring.specs.Programs.{ends, leaves}
 use Rattle.vring.specs.Plain.{plain}
 use Rattle.chains.specs.Descriptors.{has_next, writable, described, descriptor_at, next_at}
-use Rattle.chains.specs.Chains.{bad, goes, chain_from, Bounds, checked, chain_prog}
+use Rattle.chains.specs.Chains.{goes, chain_from, chain_prog}
 use Rattle.chains.specs.Usable.{usable}
 use Rattle.chains.specs.declared.descriptor.Descriptor.{Descriptor}
 use Rattle.chains.specs.declared.region.Region.{Region}
@@ -46,31 +46,9 @@ InOrder (d ∷ ds) = (writable d ≡ true → AllWritable ds) × InOrder ds
 abbrev pub UsableMeans : Type 0
 UsableMeans = (gs : List Region) (n : ℕ) (ds : List Descriptor) → (usable gs n false ds ≡ true) ↔ (AllFit gs n ds × InOrder ds)
 
--- from descriptor i the links lead to j, by one link or more
-pub data Leads (t n : ℕ) (m : List ℕ) (i : ℕ) : ℕ → Type 0 where
-  one : i < n → has_next (descriptor_at m (t + 8 * i)) ≡ true → Leads t n m i (next_at m (t + 8 * i))
-  then_one : {j : ℕ} → Leads t n m i j → j < n → has_next (descriptor_at m (t + 8 * j)) ≡ true → Leads t n m i (next_at m (t + 8 * j))
-
--- the chain from descriptor i on comes back to one of its descriptors
-abbrev pub ComesBack : (t n : ℕ) → List ℕ → (i : ℕ) → Type 0
-ComesBack t n m i = (j : ℕ) × ((i ≡ j) ⊎ Leads t n m i j) × Leads t n m j j
-
--- it never ends: i, and each that its links lead to, is a descriptor of the table, and another follows it
-pub record NeverEnds (t n : ℕ) (m : List ℕ) (i : ℕ) : Type 0 where
-  pub here : i < n
-  pub next : has_next (descriptor_at m (t + 8 * i)) ≡ true
-  pub on : (j : ℕ) → Leads t n m i j → (j < n) × (has_next (descriptor_at m (t + 8 * j)) ≡ true)
-
--- a chain comes back to a descriptor if and only if it never ends, and then it is bad
-abbrev pub GoesRound : Type 0
-GoesRound = (t n : ℕ) (m : List ℕ) (i : ℕ) → (ComesBack t n m i ↔ NeverEnds t n m i) × (NeverEnds t n m i → (f : ℕ) → chain_from f t n m i ≡ bad)
-
--- followed over memory as it stands, a chain is the one that stands there, if it may be served, and memory stays: that no descriptor is
--- read twice changes nothing
+-- followed over memory as it stands, a chain is the one that stands there, and memory stays
 abbrev pub FollowsPlainly : Type 0
-FollowsPlainly =
-    (f : ℕ) (b : Bounds) (i : ℕ) (m : List ℕ) →
-    (ends plain (chain_prog f b 0 false i) m ≡ checked b false (chain_from f b.at b.count m i)) × (leaves plain (chain_prog f b 0 false i) m ≡ m)
+FollowsPlainly = (f t n i : ℕ) (m : List ℕ) → (ends plain (chain_prog f t n i) m ≡ chain_from f t n m i) × (leaves plain (chain_prog f t n i) m ≡ m)
 
 -- a flag as a number
 abbrev pub bit : Bool → ℕ

@@ -1,5 +1,4 @@
-pub mod Sets
 pub mod Descriptors
-pub mod Usable
 pub mod Chains
+pub mod Usable
 pub mod Laws

@@ -1,5 +1,5 @@
 // What chains mean, as contracts: each function's proof is the law that its contract names.
-ghost use Rattle.chains.specs.Laws.{ChainMeans, UsableMeans, FlagsMean, GoesRound, FollowsPlainly};
+ghost use Rattle.chains.specs.Laws.{ChainMeans, UsableMeans, FlagsMean, FollowsPlainly};
 
 // A good chain is one whose descriptors are linked one to the next, and not too many.
 pub fn chain_means() -> u8
@@ -15,14 +15,7 @@ pub fn usable_means() -> u8
     0
 }
 
-// A chain comes back to a descriptor if and only if it never ends.
-pub fn goes_round() -> u8
-    ensures { GoesRound }
-{
-    0
-}
-
-// The reads that follow a chain find, over memory as it stands, the chain that stands there, if it may be served.
+// The reads that follow a chain find, over memory as it stands, the chain that stands there.
 pub fn follows_plainly() -> u8
     ensures { FollowsPlainly }
 {

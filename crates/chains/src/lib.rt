@@ -4,7 +4,6 @@ pub mod descriptor;
 pub mod flags;
 pub mod follow;
 pub mod laws;
-pub mod limits;
 pub mod region;
 pub mod ring_parts;
 pub mod table;

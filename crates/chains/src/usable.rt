@@ -1,7 +1,9 @@
-// Where a descriptor's part may lie.
-ghost use Rattle.std.specs.Prelude.{◌≡◌};
-ghost use Rattle.chains.specs.Usable.{clear, fits};
+// Whether a chain may be served.
+ghost use Rattle.std.specs.Prelude.{◌≡◌, false};
+ghost use Rattle.chains.specs.Chains.{listed};
+ghost use Rattle.chains.specs.Usable.{clear, fits, usable};
 
+use crate::chain::Chain;
 use crate::descriptor::Descriptor;
 use crate::region::Region;
 
@@ -21,9 +23,29 @@ impl Descriptor {
     }
 
     // Whether its part also lies in a memory of `n` bytes.
-    pub fn fits(&self, regions: &[Region], n: usize) -> bool
+    fn fits(&self, regions: &[Region], n: usize) -> bool
         ensures { result ≡ fits regions.now n self.now }
     {
         self.addr as usize + self.len as usize <= n && self.is_clear_of(regions)
+    }
+}
+
+impl Chain {
+    // Whether each part fits and no readable descriptor stands behind a writable one.
+    pub fn is_usable(&self, regions: &[Region], n: usize) -> bool
+        ensures { result ≡ usable regions.now n false (listed self.now) }
+    {
+        let mut written = false;
+        for d in &self.at[..self.len] {
+            if !d.fits(regions, n) {
+                return false;
+            }
+            if d.is_writable() {
+                written = true;
+            } else if written {
+                return false;
+            }
+        }
+        true
     }
 }

@@ -32,10 +32,6 @@ fn usage(rt: &HostRuntime) -> io::Result<()> {
     )?;
     println!(rt; "  anew           the device is reset")?;
     println!(rt; "  piece 1        prints the part of memory that descriptor 1 names")?;
-    println!(rt;
-        "  answers 1 2 3  the next race reads these bytes, behind those of earlier answers"
-    )?;
-    println!(rt; "  race 5         serves like serve 5, but each byte read is the next answer")?;
     println!(rt; "Empty lines and lines that begin with # are skipped.")
 }
 

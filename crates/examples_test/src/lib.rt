@@ -8,8 +8,6 @@ mod examples;
 #[cfg(test)]
 mod pieces;
 #[cfg(test)]
-mod races;
-#[cfg(test)]
 mod refusals;
 #[cfg(test)]
 mod resets;

@@ -1,7 +1,6 @@
 // What a test starts from: a memory with a ring in it, and a device.
 ghost use Rattle.std.specs.Prelude.{◌^◌, ◌<◌};
 
-use racing::entry::serve_racing;
 use serving::done::Done;
 use serving::entries::{begin_anew, serve};
 use std::alloc::{AllocError, Global};
@@ -188,19 +187,6 @@ impl Setup {
             &mut self.state,
             &mut self.kept,
             times,
-        )
-    }
-
-    // Serves at most `times` chains of a guest that goes on writing: each byte that is read is the next of `answers`.
-    pub fn race(&mut self, times: u64, answers: &[u8]) -> Done {
-        serve_racing(
-            self.places as u64,
-            self.begins as u64,
-            &mut self.memory,
-            &mut self.state,
-            &mut self.kept,
-            times,
-            answers,
         )
     }
 

@@ -1,5 +1,5 @@
+pub mod Sizes
 pub mod Prints
 pub mod Entering
 pub mod Steps
-pub mod Served
 pub mod Running

@@ -3,17 +3,16 @@ use Rattle.std.specs.Prelude.{ℕ, List, [], ◌∷◌, vec_items}
 use Rattle.vring.specs.Rings.{Ring}
 use Rattle.machine.specs.declared.machine.Machine.{Machine}
 
--- guest memory, the ring in it, the device's state and contents, and what the next race reads
+-- guest memory, the ring in it, and the device's state and contents
 pub record Bench : Type 0 where
   pub memory : List ℕ
   pub ring : Ring
   pub state : List ℕ
   pub kept : List ℕ
-  pub answers : List ℕ
 
 abbrev pub bench_of : Machine → Bench
-bench_of m = record { memory = vec_items m.memory; ring = record { size = m.places; base = m.begins }; state = m.served ∷ m.stopped ∷ []; kept = vec_items m.kept; answers = vec_items m.answers }
+bench_of m = record { memory = vec_items m.memory; ring = record { size = m.places; base = m.begins }; state = m.served ∷ m.stopped ∷ []; kept = vec_items m.kept }
 
--- before the first command: no memory, no ring, a new device that keeps nothing, and no answers
+-- before the first command: no memory, no ring, a new device that keeps nothing
 abbrev pub start : Bench
-start = record { memory = []; ring = record { size = 0; base = 0 }; state = 0 ∷ 0 ∷ []; kept = []; answers = [] }
+start = record { memory = []; ring = record { size = 0; base = 0 }; state = 0 ∷ 0 ∷ []; kept = [] }

@@ -1,12 +1,10 @@
 -- Many commands, and a whole script.
-use Rattle.std.specs.Prelude.{◌≡◌, ℕ, zero, suc, List, [], ◌∷◌, ◌++◌, map, Some, None, Ok, Err, Option, Result}
-use Rattle.serving.specs.declared.done.Done.{Done}
-use Rattle.serving.specs.declared.done.Done.TheVariants.{Served, Stopped, Anew, Refused as NotDone}
+use Rattle.std.specs.Prelude.{◌≡◌, ℕ, List, [], ◌∷◌, ◌++◌, map, Some, None, Ok, Err, Option, Result}
 use Rattle.script.specs.Format.{Cmd, read}
 use Rattle.report.specs.Lines.{refused}
 use Rattle.machine.specs.Refusals.{number_of, place_of}
 use Rattle.machine.specs.Bench.{Bench}
-use Rattle.machine.specs.Steps.{fault, Step, goes, refuses, served, step}
+use Rattle.machine.specs.Steps.{Step, goes, refuses, step}
 use Rattle.machine.specs.declared.refusal.Refusal.{Refusal}
 use Rattle.machine.specs.declared.refusal.Refusal.TheVariants.{Line}
 use Rattle.machine.specs.declared.halt.Halt.{Halt}
@@ -58,18 +56,6 @@ abbrev pub Steps : (result : Result (Unit {0}) Halt) → Step → (before after 
 Steps (Ok _) s b c out out₁ = Went s c out out₁
 Steps (Err (Refused f)) s b c out out₁ = RefusedBy s f b c out out₁
 Steps (Err NoMemory) s b c out out₁ = Unit {0}
-
--- a step by what servings answered, whose bench before had this memory and these contents
-abbrev pub told : (times : ℕ) → (memory kept : List ℕ) → (after : Bench) → Done → Step
-told n m k c (NotDone f) = refuses (fault f n c)
-told n m k c (Served w) = served m k c (Served w)
-told n m k c Stopped = served m k c Stopped
-told n m k c Anew = served m k c Anew
-
--- servings answered d and left the bench c: they came to the bench x and the answer a, or were refused and changed nothing
-abbrev pub CameTo : (refusal : ℕ) → (before x : Bench) → (a d : Done) → (after : Bench) → Type 0
-CameTo zero b x a d c = (c ≡ x) × (d ≡ a)
-CameTo (suc f) b x a d c = (c ≡ b) × (d ≡ NotDone (suc f))
 
 -- a refusal, whose line was written
 abbrev pub Told : Halt → Refusal → (out out₁ : List ℕ) → Type 0

@@ -6,12 +6,11 @@ use Rattle.model.specs.Serving.{State, serve_times}
 use Rattle.serving.specs.Entries.{state_in, numbers_of, refusal, answer, part}
 use Rattle.serving.specs.declared.done.Done.{Done}
 use Rattle.serving.specs.declared.done.Done.TheVariants.{Served, Stopped, Anew, Refused}
-use Rattle.racing.specs.Promises.{raced, race_answer, race_refusal}
 use Rattle.report.specs.Lines.{change, waiting, piece_of}
-use Rattle.script.specs.Format.{Cmd, memory, ring, bytes_at, kept, serve, anew, piece, answers, race}
+use Rattle.script.specs.Format.{Cmd, memory, ring, bytes_at, kept, serve, anew, piece}
 use Rattle.machine.specs.Bench.{Bench}
 use Rattle.machine.specs.declared.refusal.Refusal.{Refusal}
-use Rattle.machine.specs.declared.refusal.Refusal.TheVariants.{Places, RingOutside, MemoryTooLong, State as StateAt, Kept, Times, Answers, Outside}
+use Rattle.machine.specs.declared.refusal.Refusal.TheVariants.{Places, RingOutside, MemoryTooLong, State as StateAt, Kept, Times, Outside}
 
 -- the bytes 0, 1, 2 and on from k on, modulo 256, so many
 abbrev pub counted : (k n : ℕ) → List ℕ
@@ -27,12 +26,11 @@ state_fault s = cond (length s == 2) (cond (nat_lt (slice_index s 0) 65536) (Sta
 
 -- what is wrong, by the number of the refusal
 abbrev pub fault : (number : ℕ) → (times : ℕ) → Bench → Refusal
-fault zero n b = Answers (length b.answers)
+fault zero n b = Times n
 fault (suc zero) n b = ring_fault b.ring (length b.memory)
 fault (suc (suc zero)) n b = state_fault b.state
 fault (suc (suc (suc zero))) n b = Kept (length b.kept)
-fault (suc (suc (suc (suc zero)))) n b = Times n
-fault (suc (suc (suc (suc (suc f))))) n b = Answers (length b.answers)
+fault (suc (suc (suc (suc f)))) n b = Times n
 
 -- ## What is printed
 -- a line for each byte that changed, from the place `at` on
@@ -60,54 +58,28 @@ pub data Step : Type 0 where
   refuses : Refusal → Step
 
 abbrev pub with_memory : Bench → List ℕ → Bench
-with_memory b m = record { memory = m; ring = b.ring; state = b.state; kept = b.kept; answers = b.answers }
+with_memory b m = record { memory = m; ring = b.ring; state = b.state; kept = b.kept }
 
 -- the state of memory and device
 abbrev pub state_on : Bench → State
 state_on b = state_in b.memory b.state b.kept
 
-abbrev pub with_state : Bench → State → Bench
-with_state b x = record { memory = x.memory; ring = b.ring; state = numbers_of x.device; kept = x.device.kept; answers = b.answers }
-
-abbrev pub with_answers : Bench → List ℕ → Bench
-with_answers b xs = record { memory = b.memory; ring = b.ring; state = b.state; kept = b.kept; answers = xs }
+abbrev pub bench_at : Ring → State → Bench
+bench_at r x = record { memory = x.memory; ring = r; state = numbers_of x.device; kept = x.device.kept }
 
 -- servings that are not refused: what changed, and what is answered
-abbrev pub served : (memory kept : List ℕ) → (after : Bench) → Done → Step
-served m k c d = goes c (changes (codes "memory") 0 m c.memory ++ (changes (codes "kept") 0 k c.kept ++ answered d))
+abbrev pub served : Bench → (after : State) → Step
+served b x = goes (bench_at b.ring x) (changes (codes "memory") 0 b.memory x.memory ++ (changes (codes "kept") 0 b.kept x.device.kept ++ answered (answer b.ring x)))
 
--- servings, which may be refused
-abbrev pub serve_step : (refusal : ℕ) → (times : ℕ) → (before after : Bench) → Done → Step
-serve_step zero n b c d = served b.memory b.kept c d
-serve_step (suc f) n b c d = refuses (fault (suc f) n b)
-
--- of memory as it stands: why they are refused, what they leave, and what is answered
-abbrev pub refusal_of_serve : (times : ℕ) → Bench → ℕ
-refusal_of_serve n b = refusal b.ring b.memory b.state b.kept n
-
-abbrev pub after_serve : (times : ℕ) → Bench → Bench
-after_serve n b = with_state b (serve_times n b.ring (state_on b))
-
-abbrev pub answer_of_serve : (times : ℕ) → Bench → Done
-answer_of_serve n b = answer b.ring (serve_times n b.ring (state_on b))
-
--- of a guest that goes on writing
-abbrev pub refusal_of_race : (times : ℕ) → Bench → ℕ
-refusal_of_race n b = race_refusal b.ring b.memory b.state b.kept n b.answers
-
-abbrev pub after_race : (times : ℕ) → Bench → Bench
-after_race n b = with_state b (raced b.ring (state_on b) n b.answers)
-
-abbrev pub answer_of_race : (times : ℕ) → Bench → Done
-answer_of_race n b = race_answer b.ring (state_on b) n b.answers
+abbrev pub serve_step : (refusal : ℕ) → (times : ℕ) → Bench → Step
+serve_step zero n b = served b (serve_times n b.ring (state_on b))
+serve_step (suc f) n b = refuses (fault (suc f) n b)
 
 abbrev pub step : Cmd → Bench → Step
 step (memory n) b = cond (nat_le n 65536) (goes (with_memory b (replicate n 0)) []) (refuses MemoryTooLong)
-step (ring s a) b = goes (record { memory = b.memory; ring = record { size = s; base = a }; state = b.state; kept = b.kept; answers = b.answers }) []
+step (ring s a) b = goes (record { memory = b.memory; ring = record { size = s; base = a }; state = b.state; kept = b.kept }) []
 step (bytes_at a xs) b = cond (nat_le (a + length xs) (length b.memory)) (goes (with_memory b (set_bytes b.memory a xs)) []) (refuses (Outside a))
-step (kept n) b = cond (nat_le n 4096) (goes (record { memory = b.memory; ring = b.ring; state = b.state; kept = counted 0 n; answers = b.answers }) []) (refuses (Kept n))
-step (serve n) b = serve_step (refusal_of_serve n b) n b (after_serve n b) (answer_of_serve n b)
-step anew b = goes (record { memory = b.memory; ring = b.ring; state = 0 ∷ 0 ∷ []; kept = b.kept; answers = b.answers }) (codes "anew\n")
+step (kept n) b = cond (nat_le n 4096) (goes (record { memory = b.memory; ring = b.ring; state = b.state; kept = counted 0 n }) []) (refuses (Kept n))
+step (serve n) b = serve_step (refusal b.ring b.memory b.state b.kept n) n b
+step anew b = goes (record { memory = b.memory; ring = b.ring; state = 0 ∷ 0 ∷ []; kept = b.kept }) (codes "anew\n")
 step (piece i) b = goes b (part_line i (part b.ring b.memory i))
-step (answers xs) b = goes (with_answers b (b.answers ++ xs)) []
-step (race n) b = serve_step (refusal_of_race n b) n b (with_answers (after_race n b) []) (answer_of_race n b)

@@ -22,11 +22,7 @@ impl fmt::Display for Refusal {
             Refusal::Times(n) => write!(f, "one call may ask for up to 1000 servings, not {n}"),
             Refusal::Line(n) => write!(
                 f,
-                "line {n} cannot be read (lines count from 0): each line is one of memory N, ring N at N, bytes N: N .., kept N, serve N, anew, piece N, answers N .., race N"
-            ),
-            Refusal::Answers(n) => write!(
-                f,
-                "a race needs 23 answers, and 8 for each place of the ring, for each serving, and 2 more: {n} are too few"
+                "line {n} cannot be read (lines count from 0): each line is one of memory N, ring N at N, bytes N: N .., kept N, serve N, anew, piece N"
             ),
             Refusal::Outside(n) => write!(f, "bytes from {n} on do not lie in memory"),
         }

@@ -1,12 +1,19 @@
 // Which refusal it is, with its number and its place.
 ghost use Rattle.std.specs.Prelude.{◌≡◌, ◌+◌, ◌*◌, ◌<◌, ◌≤◌, length};
+ghost use Rattle.vring.specs.Rings.{size_ok};
 ghost use Rattle.machine.specs.Refusals.{number_of, place_of};
 ghost use Rattle.machine.specs.Bench.{bench_of};
 ghost use Rattle.machine.specs.Steps.{ring_fault, state_fault, fault};
 
 use crate::machine::Machine;
 use crate::refusal::Refusal;
-use vring::ring::is_size;
+
+// Whether a ring may have so many places.
+fn is_size(places: u64) -> bool
+    ensures { result ≡ size_ok places }
+{
+    places >= 1 && places <= 64 && 65536 % places == 0
+}
 
 impl Machine {
     // What is wrong with the ring.
@@ -44,8 +51,7 @@ impl Machine {
             1 => self.ring_fault(),
             2 => self.state_fault(),
             3 => Refusal::Kept(self.kept.len() as u64),
-            4 => Refusal::Times(times),
-            _ => Refusal::Answers(self.answers.len() as u64),
+            _ => Refusal::Times(times),
         }
     }
 }
@@ -61,7 +67,6 @@ impl Refusal {
             Refusal::Kept(_) => 3,
             Refusal::Times(_) => 4,
             Refusal::Line(_) | Refusal::Outside(_) => 5,
-            Refusal::Answers(_) => 6,
         }
     }
 
@@ -77,7 +82,6 @@ impl Refusal {
             | Refusal::Kept(n)
             | Refusal::Times(n)
             | Refusal::Line(n)
-            | Refusal::Answers(n)
             | Refusal::Outside(n) => *n,
         }
     }

@@ -1,5 +1,4 @@
 // A machine that a script sets up and runs: guest memory, a ring, and a device.
-pub mod before;
 pub mod explain;
 pub mod faults;
 pub mod halt;
@@ -7,5 +6,4 @@ pub mod machine;
 pub mod print;
 pub mod refusal;
 pub mod run;
-pub mod servings;
 pub mod step;

@@ -1,6 +1,6 @@
 // What a script works on.
 
-// Guest memory, where its ring stands, the device's state and contents, and what the next race reads.
+// Guest memory, where its ring stands, and the device's state and contents.
 #[derive(Drop)]
 pub struct Machine {
     pub memory: Vec<u8>,
@@ -9,5 +9,4 @@ pub struct Machine {
     pub served: u32,
     pub stopped: u32,
     pub kept: Vec<u8>,
-    pub answers: Vec<u8>,
 }

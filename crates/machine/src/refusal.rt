@@ -17,8 +17,6 @@ pub enum Refusal {
     Times(u64),
     // This line of the text cannot be read.
     Line(u64),
-    // So many answers are too few for a race.
-    Answers(u64),
     // Bytes from this address on do not lie in memory; in a script that was read they do.
     Outside(u64),
 }

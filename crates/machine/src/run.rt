@@ -34,7 +34,7 @@ fn end(halt: Halt, out: &mut String) -> Halt
 }
 
 impl Machine {
-    // No memory, no ring, a new device that keeps nothing, and no answers.
+    // No memory, no ring, and a new device that keeps nothing.
     pub fn new(heap: Global) -> Machine
         ensures { bench_of result ≡ start }
     {
@@ -45,7 +45,6 @@ impl Machine {
             served: 0,
             stopped: 0,
             kept: Vec::new(heap),
-            answers: Vec::new(heap),
         }
     }
 

@@ -1,17 +1,20 @@
 // What each command does.
-ghost use Rattle.std.specs.Prelude.{◌≡◌, ◌+◌, ◌<◌, ◌≤◌, [], IfOk, string_bytes};
+ghost use Rattle.std.specs.Prelude.{◌≡◌, ◌+◌, ◌<◌, ◌≤◌, [], IfOk, vec_len, string_bytes};
+ghost use Rattle.serving.specs.Entries.{refusal, ServeSays};
 ghost use Rattle.script.specs.Commands.{cmd_of};
-ghost use Rattle.script.specs.Format.{memory as a_memory, bytes_at, kept as some-kept, anew, piece as a_Piece, answers as some-answers};
+ghost use Rattle.script.specs.Format.{memory as a_memory, bytes_at, kept as some-kept, serve as some-servings, anew, piece as a_Piece};
 ghost use Rattle.machine.specs.Bench.{bench_of};
 ghost use Rattle.machine.specs.Steps.{counted, step};
 ghost use Rattle.machine.specs.Runs.{Steps};
 
 use crate::halt::Halt;
 use crate::machine::Machine;
-use crate::print::{write_answer, write_part};
+use crate::print::{write_answer, write_changes, write_part};
 use crate::refusal::Refusal;
+use report::store::Store;
 use script::command::Command;
-use serving::entries::{begin_anew, piece};
+use serving::done::Done;
+use serving::entries::{begin_anew, piece, serve};
 use std::alloc::{AllocError, Global};
 
 // The bytes 0, 1, 2 and on, modulo 256, `n` of them.
@@ -22,6 +25,15 @@ fn count_up(heap: Global, n: u64) -> Result<Vec<u8>, AllocError>
     for i in 0..n {
         v.push((i % 256) as u8)?;
     }
+    Ok(v)
+}
+
+// A copy of some bytes.
+fn copy_of(heap: Global, bytes: &[u8]) -> Result<Vec<u8>, AllocError>
+    ensures { IfOk result (λ v. v.items ≡ bytes.now) }
+{
+    let mut v = Vec::new(heap);
+    v.extend_from_slice(bytes)?;
     Ok(v)
 }
 
@@ -62,11 +74,40 @@ impl Machine {
         Ok(())
     }
 
-    // The next race also reads these bytes.
-    fn add_answers(&mut self, bytes: &[u8]) -> Result<(), Halt>
-        ensures { Steps result (step (some-answers bytes.now) (bench_of self.old)) (bench_of self.old) (bench_of self.new) [] [] }
+    // At most `times` servings.
+    fn serve_all(&mut self, times: u64) -> Done
+        ensures does { ServeSays (refusal (bench_of self.old).ring self.old.memory.items (bench_of self.old).state self.old.kept.items times) (bench_of self.old).ring self.old.memory.items (bench_of self.old).state self.old.kept.items times result self.new.memory.items (bench_of self.new).state self.new.kept.items }
+        ensures ring { (bench_of self.new).ring ≡ (bench_of self.old).ring }
+        ensures memory { vec_len self.new.memory ≡ vec_len self.old.memory }
+        ensures kept { vec_len self.new.kept ≡ vec_len self.old.kept }
     {
-        self.answers.extend_from_slice(bytes)?;
+        let mut state = [self.served, self.stopped];
+        let done = serve(
+            self.places,
+            self.begins,
+            &mut self.memory,
+            &mut state,
+            &mut self.kept,
+            times,
+        );
+        self.served = state[0];
+        self.stopped = state[1];
+        done
+    }
+
+    // At most `times` servings; what changed and what is answered is printed.
+    fn serve_chains(&mut self, heap: Global, times: u64, out: &mut String) -> Result<(), Halt>
+        ensures { Steps result (step (some-servings times) (bench_of self.old)) (bench_of self.old) (bench_of self.new) (string_bytes out.old) (string_bytes out.new) }
+    {
+        let memory = copy_of(heap, &self.memory)?;
+        let kept = copy_of(heap, &self.kept)?;
+        let done = self.serve_all(times);
+        if let Done::Refused(number) = done {
+            return Err(Halt::Refused(self.fault(number, times)));
+        }
+        write_changes(out, Store::Memory, &memory, &self.memory)?;
+        write_changes(out, Store::Kept, &kept, &self.kept)?;
+        write_answer(out, done)?;
         Ok(())
     }
 
@@ -106,8 +147,6 @@ impl Machine {
             Command::Serve(n) => self.serve_chains(heap, *n, out),
             Command::Anew => self.reset(out),
             Command::Piece(n) => self.show_piece(*n, out),
-            Command::Answers(bytes) => self.add_answers(bytes),
-            Command::Race(n) => self.race_chains(heap, *n, out),
         }
     }
 }

@@ -1,10 +1,10 @@
--- What is read has numbers below 2^64, and bytes below 256; those of `bytes` lie in memory.
+-- What is read has numbers below 2^64, and bytes below 256 that lie in memory.
 use Rattle.std.proofs.Common.{◌≡◌, ℕ, ◌+◌, ◌-◌, ◌^◌, ◌<◌, ◌≤◌, Bool, true, false, cond, ◌&&◌, eqb, ltb, leb, List, [], ◌∷◌, length, get_or, take, Some, None, Ok, Err, codes, Option, Result, subst, arith}
 use Rattle.std.specs.Option.{option_map}
 use Rattle.std.specs.List.{AllByRecursion as All}
 use Rattle.std.specs.Str.{all_ascii_digits, bytes_eq}
 use Rattle.std.proofs.lemmas.Bool.{and_parts, cond_both, ltb-true, leb-true}
-use Rattle.script.specs.Format.{Cmd, memory, ring, bytes_at, kept, serve, anew, piece, answers, race, Line, skipped, says, unreadable, said, meaning, line, lines, words, number, value, only, both, number_at, small, byte, before, row, address, laid, bytes_in, alone, command, size_after, first, go_on, read_lines, read}
+use Rattle.script.specs.Format.{Cmd, memory, ring, bytes_at, kept, serve, anew, piece, Line, skipped, says, unreadable, said, meaning, line, lines, words, number, value, only, both, number_at, small, byte, before, row, address, laid, bytes_in, alone, command, size_after, first, go_on, read_lines, read}
 use Rattle.script.specs.Laws.{Sound, Sounds, ReadsSound}
 
 -- what holds of a value, if there is one
@@ -85,9 +85,7 @@ module _ (size : ℕ) where
       cond_both (bytes_eq w (codes "kept")) _ _ P (λ _. one kept (λ n h. h)) (λ _.
       cond_both (bytes_eq w (codes "serve")) _ _ P (λ _. one serve (λ n h. h)) (λ _.
       cond_both (bytes_eq w (codes "anew")) _ _ P (λ _. alone_sound ws) (λ _.
-      cond_both (bytes_eq w (codes "piece")) _ _ P (λ _. one piece (λ n h. h)) (λ _.
-      cond_both (bytes_eq w (codes "answers")) _ _ P (λ _. made_sound (All (λ b. b < 256)) answers (λ bs h. h) (row ws) (row_of ws)) (λ _.
-      cond_both (bytes_eq w (codes "race")) _ None P (λ _. one race (λ n h. h)) (λ _. tt)))))))))
+      cond_both (bytes_eq w (codes "piece")) _ None P (λ _. one piece (λ n h. h)) (λ _. tt)))))))
 
   -- ## Lines
   abbrev Told : Line → Type 0

@@ -16,10 +16,8 @@ module _ (so_far bs whole : List ℕ) (i : ℕ) (inv : so_far ++ spaced (drop i 
   spaced_end l = sym (append-nil so_far) ∙ (ap (λ x. so_far ++ x) (sym (at_drop_all spaced bs i l)) ∙ inv)
 
 -- bytes behind the head of their line
-pub headed : (a head xs s t : List ℕ) → s ≡ a ++ head → t ≡ s ++ spaced xs → t ≡ a ++ (head ++ spaced xs)
-headed a head xs s t d e = e ∙ (ap (λ v. v ++ spaced xs) d ∙ append_assoc a head (spaced xs))
-
 pub row_written : (a xs s t : List ℕ) (n : ℕ) → s ≡ a ++ (codes "bytes " ++ (decimal n ++ codes ":")) → t ≡ s ++ spaced xs → t ≡ a ++ shown (bytes_at n xs)
 row_written a xs s t n d e =
-    headed a (codes "bytes " ++ (decimal n ++ codes ":")) xs s t d e
-    ∙ ap (λ v. a ++ (codes "bytes " ++ v)) (append_assoc (decimal n) (codes ":") (spaced xs))
+    e ∙ (ap (λ v. v ++ spaced xs) d
+    ∙ (append_assoc a (codes "bytes " ++ (decimal n ++ codes ":")) (spaced xs)
+    ∙ ap (λ v. a ++ (codes "bytes " ++ v)) (append_assoc (decimal n) (codes ":") (spaced xs))))

@@ -6,7 +6,7 @@ use Rattle.std.specs.Str.{all_ascii_digits}
 use Rattle.std.proofs.lemmas.Fmt.{decimal_nonempty, digits_decimal, digits_value-decimal}
 use Rattle.std.proofs.lemmas.List.{length_push, length-append, get_or_push, take_at}
 use Rattle.std.proofs.lemmas.Bool.{lt-ltb, le-leb, and_from}
-use Rattle.script.specs.Format.{Cmd, memory, ring, bytes_at, kept, serve, anew, piece, answers, race, Line, says, said, meaning, line, line_end, blank, lines, words, number, value, only, both, number_at, small, byte, before, row, address, laid, bytes_in, command, size_after, first, go_on, read_lines, read}
+use Rattle.script.specs.Format.{Cmd, memory, ring, bytes_at, kept, serve, anew, piece, Line, says, said, meaning, line, line_end, blank, lines, words, number, value, only, both, number_at, small, byte, before, row, address, laid, bytes_in, command, size_after, first, go_on, read_lines, read}
 use Rattle.script.specs.Shown.{spaced, shown}
 use Rattle.script.specs.Laws.{Sound, Sounds, written, RoundTrip, WholeRoundTrip}
 use Rattle.script.proofs.Frees.{free, free_join, split_mark, words_mark, words_free, words_spaced, spaced_no_end, own, decimal_no_blank, decimal_no_end}
@@ -77,8 +77,6 @@ round_trip size (kept n) h = ap (meaning size) (named (codes "kept") n refl (ome
 round_trip size (serve n) h = ap (meaning size) (named (codes "serve") n refl (omega arith) h) ∙ only_back serve n h
 round_trip size anew h = refl
 round_trip size (piece n) h = ap (meaning size) (named (codes "piece") n refl (omega arith) h) ∙ only_back piece n h
-round_trip size (answers bs) h = ap (meaning size) (words_spaced (codes "answers") bs refl (omega arith) h) ∙ ap (λ o. said (option_map answers o)) (row_back bs h)
-round_trip size (race n) h = ap (meaning size) (named (codes "race") n refl (omega arith) h) ∙ only_back race n h
 
 -- ## Texts
 no_end : (size : ℕ) (c : Cmd) → Sound size c → free line_end (shown c) ≡ true
@@ -89,8 +87,6 @@ no_end size (kept n) h = decimal_no_end n h
 no_end size (serve n) h = decimal_no_end n h
 no_end size anew h = refl
 no_end size (piece n) h = decimal_no_end n h
-no_end size (answers bs) h = spaced_no_end bs h
-no_end size (race n) h = decimal_no_end n h
 
 lines_back : (size n : ℕ) (cs : List Cmd) → Sounds size cs → read_lines size n (lines (written cs)) ≡ Ok cs
 lines_back size n [] h = refl

@@ -1,10 +1,10 @@
 -- What the code's commands stand for.
 use Rattle.std.specs.Prelude.{vec_items}
 use Rattle.script.specs.declared.command.Command.{Command}
-use Rattle.script.specs.declared.command.Command.TheVariants.{Memory, Ring, Bytes, Kept, Serve, Anew, Piece, Answers, Race}
+use Rattle.script.specs.declared.command.Command.TheVariants.{Memory, Ring, Bytes, Kept, Serve, Anew, Piece}
 use Rattle.script.specs.declared.said.Said.{Said}
 use Rattle.script.specs.declared.said.Said.TheVariants.{Nothing, Command as Says, Unreadable}
-use Rattle.script.specs.Format.{Cmd, memory, ring, bytes_at, kept, serve, anew, piece, answers, race, Line, skipped, says, unreadable}
+use Rattle.script.specs.Format.{Cmd, memory, ring, bytes_at, kept, serve, anew, piece, Line, skipped, says, unreadable}
 
 -- the command that a value of the code stands for
 abbrev pub cmd_of : Command → Cmd
@@ -15,8 +15,6 @@ cmd_of (Kept n) = kept n
 cmd_of (Serve n) = serve n
 cmd_of Anew = anew
 cmd_of (Piece n) = piece n
-cmd_of (Answers bytes) = answers (vec_items bytes)
-cmd_of (Race n) = race n
 
 -- what the code found that a line says
 abbrev pub line_says : Said → Line

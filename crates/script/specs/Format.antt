@@ -21,10 +21,6 @@ pub data Cmd : Type 0 where
   anew : Cmd
   -- the part of memory that descriptor n names
   piece : (n : ℕ) → Cmd
-  -- the next racing serve reads these bytes, behind those of earlier answers
-  answers : (bytes : List ℕ) → Cmd
-  -- up to n servings of a guest that goes on writing
-  race : (n : ℕ) → Cmd
 
 -- ## Lines and words
 
@@ -143,9 +139,7 @@ command size w ws =
     (cond (bytes_eq w (codes "serve")) (option_map serve (only ws))
     (cond (bytes_eq w (codes "anew")) (alone anew ws)
     (cond (bytes_eq w (codes "piece")) (option_map piece (only ws))
-    (cond (bytes_eq w (codes "answers")) (option_map answers (row ws))
-    (cond (bytes_eq w (codes "race")) (option_map race (only ws))
-    None))))))))
+    None))))))
 
 -- ## Lines
 
@@ -180,8 +174,6 @@ size_after size (kept n) = size
 size_after size (serve n) = size
 size_after size anew = size
 size_after size (piece n) = size
-size_after size (answers bytes) = size
-size_after size (race n) = size
 
 -- a command before the others
 abbrev pub first : Cmd → Result (List Cmd) ℕ → Result (List Cmd) ℕ

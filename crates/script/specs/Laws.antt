@@ -1,10 +1,10 @@
 -- What is written is read again.
 use Rattle.std.specs.Prelude.{◌≡◌, ℕ, ◌+◌, ◌^◌, ◌<◌, ◌≤◌, List, [], ◌∷◌, ◌++◌, length, Ok}
 use Rattle.std.specs.List.{AllByRecursion as All}
-use Rattle.script.specs.Format.{Cmd, memory, ring, bytes_at, kept, serve, anew, piece, answers, race, says, line, size_after, read}
+use Rattle.script.specs.Format.{Cmd, memory, ring, bytes_at, kept, serve, anew, piece, says, line, size_after, read}
 use Rattle.script.specs.Shown.{shown}
 
--- numbers below 2^64, and bytes below 256; those of `bytes` lie in a memory of so many bytes
+-- numbers below 2^64, and bytes below 256 that lie in a memory of so many bytes
 abbrev pub Sound : (size : ℕ) → Cmd → Type 0
 Sound size (memory n) = n < 2 ^ 64
 Sound size (ring places base) = (places < 2 ^ 64) × (base < 2 ^ 64)
@@ -13,8 +13,6 @@ Sound size (kept n) = n < 2 ^ 64
 Sound size (serve n) = n < 2 ^ 64
 Sound size anew = Unit {0}
 Sound size (piece n) = n < 2 ^ 64
-Sound size (answers bytes) = All (λ b. b < 256) bytes
-Sound size (race n) = n < 2 ^ 64
 
 -- each command in the memory that the commands before it leave
 abbrev pub Sounds : (size : ℕ) → List Cmd → Type 0

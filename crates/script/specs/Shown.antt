@@ -1,6 +1,6 @@
 -- How commands are written.
 use Rattle.std.specs.Prelude.{ℕ, List, [], ◌∷◌, ◌++◌, codes, decimal}
-use Rattle.script.specs.Format.{Cmd, memory, ring, bytes_at, kept, serve, anew, piece, answers, race}
+use Rattle.script.specs.Format.{Cmd, memory, ring, bytes_at, kept, serve, anew, piece}
 
 -- numbers, each with a space before it
 abbrev pub spaced : List ℕ → List ℕ
@@ -18,5 +18,3 @@ shown (kept n) = codes "kept " ++ decimal n
 shown (serve n) = codes "serve " ++ decimal n
 shown anew = codes "anew"
 shown (piece n) = codes "piece " ++ decimal n
-shown (answers bytes) = codes "answers" ++ spaced bytes
-shown (race n) = codes "race " ++ decimal n

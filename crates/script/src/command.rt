@@ -17,8 +17,4 @@ pub enum Command {
     Anew,
     // The part of memory that this descriptor names.
     Piece(u64),
-    // The next racing serve reads these bytes, behind those of earlier answers.
-    Answers(Vec<u8>),
-    // Up to so many servings of a guest that goes on writing.
-    Race(u64),
 }

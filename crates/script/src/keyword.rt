@@ -10,7 +10,5 @@ pub enum Keyword {
     Serve,
     Anew,
     Piece,
-    Answers,
-    Race,
     Other,
 }

@@ -16,7 +16,7 @@ pub fn reads_what_it_writes() -> u8
     0
 }
 
-// Commands that are read have numbers below 2^64, and bytes below 256; those of `bytes` lie in memory.
+// Commands that are read have numbers below 2^64, and bytes below 256 that lie in memory.
 pub fn reads_sound_commands() -> u8
     ensures { ReadsSound }
 {

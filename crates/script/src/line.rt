@@ -1,7 +1,7 @@
 // What one line of a script says.
 ghost use Rattle.std.specs.Prelude.{◌≡◌, IfOk, Some, None, vec_items, ◌==◌, slice_index};
 ghost use Rattle.std.specs.Option.{option_map};
-ghost use Rattle.script.specs.Format.{words, byte as byte_of, row as row_of, laid as Laid-of, bytes_in, address as address-of, only as Only-of, alone, anew as anew-cmd, answers as answers-cmd, number_at as numbers-at, command as command-of, line as Line-of};
+ghost use Rattle.script.specs.Format.{words, byte as byte_of, row as row_of, laid as Laid-of, bytes_in, address as address-of, only as Only-of, alone, anew as anew-cmd, number_at as numbers-at, command as command-of, line as Line-of};
 ghost use Rattle.script.specs.Commands.{cmd_of, line_says};
 ghost use Rattle.script.specs.Keywords.{by_keyword};
 
@@ -96,16 +96,6 @@ fn bytes(heap: Global, size: u64, text: &[u8]) -> Result<Option<Command>, AllocE
     }
 }
 
-// The answers that a text writes with nothing else.
-fn answers(heap: Global, text: &[u8]) -> Result<Option<Command>, AllocError>
-    ensures { IfOk result (λ o. option_map cmd_of o ≡ option_map answers-cmd (row_of (words text.now))) }
-{
-    match row(heap, text)? {
-        Some(bytes) => Ok(Some(Command::Answers(bytes))),
-        None => Ok(None),
-    }
-}
-
 // A reset, if nothing follows.
 fn anew(text: &[u8]) -> Option<Command>
     ensures { option_map cmd_of result ≡ alone anew-cmd (words text.now) }
@@ -116,9 +106,9 @@ fn anew(text: &[u8]) -> Option<Command>
     }
 }
 
-// The command that a keyword and the text behind it say, but for bytes and answers.
+// The command that a keyword and the text behind it say, but for bytes.
 fn numbered(keyword: Keyword, text: &[u8]) -> Option<Command>
-    ensures { option_map cmd_of result ≡ by_keyword keyword None None (words text.now) }
+    ensures { option_map cmd_of result ≡ by_keyword keyword None (words text.now) }
 {
     match keyword {
         Keyword::Memory => Some(Command::Memory(only(text)?)),
@@ -130,8 +120,7 @@ fn numbered(keyword: Keyword, text: &[u8]) -> Option<Command>
         Keyword::Serve => Some(Command::Serve(only(text)?)),
         Keyword::Anew => anew(text),
         Keyword::Piece => Some(Command::Piece(only(text)?)),
-        Keyword::Race => Some(Command::Race(only(text)?)),
-        Keyword::Bytes | Keyword::Answers | Keyword::Other => None,
+        Keyword::Bytes | Keyword::Other => None,
     }
 }
 
@@ -141,7 +130,6 @@ fn command(heap: Global, size: u64, word: &[u8], text: &[u8]) -> Result<Option<C
 {
     match Keyword::of(word) {
         Keyword::Bytes => bytes(heap, size, text),
-        Keyword::Answers => answers(heap, text),
         keyword => Ok(numbered(keyword, text)),
     }
 }

@@ -31,10 +31,6 @@ impl Keyword {
             Keyword::Anew
         } else if is(word, b"piece") {
             Keyword::Piece
-        } else if is(word, b"answers") {
-            Keyword::Answers
-        } else if is(word, b"race") {
-            Keyword::Race
         } else {
             Keyword::Other
         }

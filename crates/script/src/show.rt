@@ -1,7 +1,7 @@
 // Commands as text.
 ghost use Rattle.std.specs.Prelude.{◌≡◌, ◌++◌, IfOk, string_bytes, OnOk};
 ghost use Rattle.script.specs.Commands.{cmd_of};
-ghost use Rattle.script.specs.Format.{bytes_at, answers};
+ghost use Rattle.script.specs.Format.{bytes_at};
 ghost use Rattle.script.specs.Shown.{spaced, shown};
 
 use crate::command::Command;
@@ -26,14 +26,6 @@ fn write_row(out: &mut String, at: u64, bytes: &[u8]) -> fmt::Result
     write_bytes(out, bytes)
 }
 
-// Writes the command that gives answers.
-fn write_answers(out: &mut String, bytes: &[u8]) -> fmt::Result
-    ensures { OnOk result (string_bytes out.new ≡ string_bytes out.old ++ shown (answers bytes.now)) }
-{
-    write!(out, "answers")?;
-    write_bytes(out, bytes)
-}
-
 // Writes a command as its line, without the line's end.
 pub fn write_command(out: &mut String, command: &Command) -> fmt::Result
     ensures { OnOk result (string_bytes out.new ≡ string_bytes out.old ++ shown (cmd_of command.now)) }
@@ -46,8 +38,6 @@ pub fn write_command(out: &mut String, command: &Command) -> fmt::Result
         Command::Serve(n) => write!(out, "serve {n}"),
         Command::Anew => write!(out, "anew"),
         Command::Piece(n) => write!(out, "piece {n}"),
-        Command::Answers(bytes) => write_answers(out, bytes.as_slice()),
-        Command::Race(n) => write!(out, "race {n}"),
     }
 }
 

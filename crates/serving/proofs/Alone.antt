@@ -6,7 +6,7 @@ use Rattle.vring.specs.Programs.{Prog, ret, get, then, pair, ends, leaves}
 use Rattle.vring.specs.Plain.{plain}
 use Rattle.vring.specs.Rings.{Ring, available_at, ends_at, head_at}
 use Rattle.vring.proofs.Binds.{ends_then, leaves_then, ends_by, leaves_by}
-use Rattle.chains.specs.Chains.{Walk, bad, goes, Bounds, checked, ring_bounds, chain_prog, chain_from}
+use Rattle.chains.specs.Chains.{Walk, bad, goes, chain_prog, chain_from}
 use Rattle.chains.specs.Usable.{usable}
 use Rattle.chains.specs.declared.descriptor.Descriptor.{Descriptor}
 use Rattle.chains.proofs.Meanings.{all_fit}
@@ -21,11 +21,8 @@ use Rattle.model.specs.Promises.{Sound}
 use Rattle.model.proofs.Acts.{within_all}
 use Rattle.model.proofs.Rings.{Stands}
 use Rattle.model.proofs.Serves.{times_more, idle_stays, stays_stopped, serve_stopped, ring_stands, serve_sound, serve_length}
-use Rattle.serving.specs.Turns.{take_prog, next_prog, look_prog, Turn, turned, act_prog, turn_prog, run_prog, Called, called, call_prog}
-use Rattle.serving.specs.Entries.{answer}
-use Rattle.serving.specs.declared.done.Done.{Done}
-use Rattle.serving.proofs.Entering.{answer_stopped, answer_served}
-use Rattle.serving.proofs.Turning.{Runs, turn_stopped, turn_looks, run_ends, run_more, call_stopped, call_waits}
+use Rattle.serving.specs.Turns.{take_prog, next_prog, look_prog, Turn, turned, act_prog, turn_prog, run_prog}
+use Rattle.serving.proofs.Turning.{Runs, turn_stopped, turn_looks, run_ends, run_more}
 
 -- ## Look
 -- a look keeps the first bytes of a request
@@ -59,23 +56,22 @@ finds_job h ds m i =
     let g = gathers_plainly 19 ds m i in let k = λ (q : List ℕ). ret (job h ds q) in
     (ends_then plain (request_prog 19 ds) k m ∙ ap (job h ds) g.0, leaves_then plain (request_prog 19 ds) k m ∙ g.1, i)
 
-finds_take : (r : Ring) (h : ℕ) (w : Walk) (m : List ℕ) → Finds (take_prog h (checked (ring_bounds r (length m)) false w)) (look_chain r m h w) m
+finds_take : (r : Ring) (h : ℕ) (w : Walk) (m : List ℕ) → Finds (take_prog r (length m) h w) (look_chain r m h w) m
 unfolding take_prog look_chain
 finds_take r h bad m = finds_ret halt m refl tt
 finds_take r h (goes ds) m =
-    elim (cases_Bool (usable (regions r) (length m) false ds)) [
-      | inl u ↦ rw u (finds_job h ds m (within_all (regions r) (length m) ds (all_fit (regions r) (length m) false ds u)))
-      | inr u ↦ rw u (finds_ret halt m refl tt)
-    ]
+    finds_cond (usable (regions r) (length m) false ds) (then (request_prog 19 ds) (λ q. ret (job h ds q))) (ret halt) (job h ds (request m ds)) halt m
+    (λ u. finds_job h ds m (within_all (regions r) (length m) ds (all_fit (regions r) (length m) false ds u)))
+    (λ _. finds_ret halt m refl tt)
 
 -- a chain that was followed
-finds_walk : (f : ℕ) (b : Bounds) (h : ℕ) (k : Walk → Prog Look) (l : Look) (m : List ℕ) → Finds (k (checked b false (chain_from f b.at b.count m h))) l m → Finds (then (chain_prog f b 0 false h) k) l m
+finds_walk : (f t n h : ℕ) (k : Walk → Prog Look) (l : Walk → Look) (m : List ℕ) → ((w : Walk) → Finds (k w) (l w) m) → Finds (then (chain_prog f t n h) k) (l (chain_from f t n m h)) m
 unfolding Finds
-finds_walk f b h k l m g =
-    let w = follows_plainly f b h m in let v = checked b false (chain_from f b.at b.count m h) in (
-      ends_by plain (chain_prog f b 0 false h) k m m v (sym w.0) (sym w.1) ∙ g.0,
-      leaves_by plain (chain_prog f b 0 false h) k m m v (sym w.0) (sym w.1) ∙ g.1,
-      g.2,
+finds_walk f t n h k l m g =
+    let w = follows_plainly f t n h m in let b = g (chain_from f t n m h) in (
+      ends_by plain (chain_prog f t n h) k m m (chain_from f t n m h) (sym w.0) (sym w.1) ∙ b.0,
+      leaves_by plain (chain_prog f t n h) k m m (chain_from f t n m h) (sym w.0) (sym w.1) ∙ b.1,
+      b.2,
     )
 
 -- a number that was read
@@ -86,9 +82,9 @@ finds_get a k l m f = f
 finds_next : (r : Ring) (s : ℕ) (m : List ℕ) → Finds (next_prog r (length m) s) (offer r m s) m
 unfolding next_prog offer head chain
 finds_next r s m =
-    let h = word m (head_at r s) in let b = ring_bounds r (length m) in
-    finds_get (head_at r s) (λ i. then (chain_prog r.size b 0 false i) (λ w. take_prog i w)) _ m
-    (finds_walk r.size b h (λ w. take_prog h w) _ m (finds_take r h (chain_from r.size r.base r.size m h) m))
+    let h = word m (head_at r s) in
+    finds_get (head_at r s) (λ i. then (chain_prog r.size r.base r.size i) (λ w. take_prog r (length m) i w)) _ m
+    (finds_walk r.size r.base r.size h (λ w. take_prog r (length m) h w) (look_chain r m h) m (λ w. finds_take r h w m))
 
 finds_look : (r : Ring) (s : ℕ) (m : List ℕ) → Finds (look_prog r (length m) s) (look r m s) m
 unfolding look_prog look pending
@@ -186,22 +182,4 @@ runs_alone (suc f) r b h =
     elim (cases_Bool d.stopped) [
       | inl s ↦ let t = turn_stopped plain r (length m) d m s in rests f r b b (t.0, sym t.1) (stays_stopped r b (suc f) s)
       | inr s ↦ by_look f r b h s (runs_alone f r (serve r b) (serve_sound r b h)) l refl (turns_alone r b st.some st.within s)
-    ]
-
--- ## A call
-abbrev pub Answers : Prog Called → List ℕ → State → Done → Type 0
-Answers p m x a = (ends plain p m ≡ called x.device a) × (leaves plain p m ≡ x.memory)
-
-pub calls_alone : (f : ℕ) (r : Ring) (b : State) → Sound r b → Answers (call_prog f r (length b.memory) b.device) b.memory (serve_times f r b) (answer r (serve_times f r b))
-unfolding pending
-calls_alone f r b h =
-    let n = length b.memory in let x = serve_times f r b in
-    let t = runs_alone f r b h in let u : Runs plain r n b.device b.memory f x.memory x.device = (t.0, sym t.1) in
-    elim (cases_Bool x.device.stopped) [
-      | inl s ↦
-          let c = call_stopped plain r n b.device x.device b.memory x.memory f u s in
-          (c.0 ∙ ap (called x.device) (sym (answer_stopped r x s)), sym c.1)
-      | inr s ↦
-          let c = call_waits plain r n b.device x.device b.memory x.memory f u x.memory (word x.memory (available_at r)) s refl refl in
-          (c.0 ∙ ap (called x.device) (sym (answer_served r x s)), sym c.1)
     ]

@@ -20,6 +20,11 @@ answer_stopped r x e = ap (λ b. cond b Stopped (Served (waits r x))) e
 pub answer_served : (r : Ring) (x : State) → x.device.stopped ≡ false → answer r x ≡ Served (waits r x)
 answer_served r x e = ap (λ b. cond b Stopped (Served (waits r x))) e
 
+-- what is left of a count less what was served, as the code works it out
+pub waits_by : (r : Ring) (x : State) (c s : ℕ) → c ≡ word x.memory (available_at r) → s ≡ x.device.served → x.device.served < 65536 → (c + (65536 - s)) % 65536 ≡ waits r x
+unfolding pending
+waits_by r x c s e f h = let k : c + (65536 - s) ≡ word x.memory (available_at r) + 65536 - x.device.served = omega arith in ap (λ y. y % 65536) k
+
 -- ## Refusals
 module _ (r : Ring) (m s k : List ℕ) (n : ℕ) where
   pub refusal_ring : placed_ok r (length m) ≡ false → refusal r m s k n ≡ 1
@@ -47,9 +52,11 @@ module _ (r : Ring) (m s k : List ℕ) (n : ℕ) where
       pub refusal_none : leb (length k) 4096 ≡ true → leb n 1000 ≡ true → refusal r m s k n ≡ 0
       refusal_none g h = stated ∙ (ap (λ b. cond b (cond (leb n 1000) 0 4) 3) g ∙ ap (λ b. cond b 0 4) h)
 
-  pub refused : (f : ℕ) → refusal r m s k n ≡ f → 0 < f → ServeSays (refusal r m s k n) r m s k n (Refused f) m s k
-  refused zero e p = absurd (omega arith)
-  refused (suc f) e p = rw e (record { result = refl; memory = refl; state = refl; kept = refl })
+  pub refused : (f : ℕ) → refusal r m s k n ≡ suc f → ServeSays (refusal r m s k n) r m s k n (Refused (suc f)) m s k
+  refused f e = rw e (record { result = refl; memory = refl; state = refl; kept = refl })
+
+  pub not_taken : (f : ℕ) → refusal r m s k n ≡ suc f → refusal r m s k n ≡ 0 → ⊥
+  not_taken f e z = omega arith
 
   pub taken : (d : Done) (m₁ s₁ k₁ : List ℕ) → refusal r m s k n ≡ 0 → Serves r (state_in m s k) n d m₁ s₁ k₁ → ServeSays (refusal r m s k n) r m s k n d m₁ s₁ k₁
   taken d m₁ s₁ k₁ e h = rw e h
@@ -69,7 +76,7 @@ stopped_back : (t : Bool) → eqb (cond t 1 0) 1 ≡ t
 stopped_back true = refl
 stopped_back false = refl
 
-pub device_back : (d : Device) → device_in (numbers_of d) d.kept ≡ d
+device_back : (d : Device) → device_in (numbers_of d) d.kept ≡ d
 device_back d = ap {B = Device} (λ t. record { kept = d.kept; served = d.served; stopped = t }) (stopped_back d.stopped)
 
 -- the state that is left is the one that the servings come to

@@ -4,14 +4,14 @@ use Rattle.std.proofs.lemmas.Bool.{eq-eqb, ne_eqb, le-leb, lt-leb, true≢false}
 use Rattle.vring.specs.Programs.{Prog, ret, get, then, pair, Acts, ends, leaves}
 use Rattle.vring.specs.Rings.{Ring, available_at, head_at}
 use Rattle.vring.proofs.Binds.{ends_by, leaves_by, ends_get, leaves_get, ends_then, leaves_then}
-use Rattle.chains.specs.Chains.{Walk, bad, goes, ring_bounds, chain_prog, listed, Follows}
+use Rattle.chains.specs.Chains.{Walk, bad, goes, chain_prog, listed, Follows}
+use Rattle.chains.specs.Laws.{AllFit}
+use Rattle.chains.specs.Usable.{usable}
 use Rattle.chains.specs.declared.descriptor.Descriptor.{Descriptor}
-use Rattle.chains.proofs.Allowed.{walk_usable}
-use Rattle.chains.proofs.Meanings.{all_fit}
+use Rattle.chains.specs.declared.region.Region.{Region}
 use Rattle.transfer.specs.Requests.{request_prog}
 use Rattle.transfer.specs.Responses.{Within}
 use Rattle.model.specs.Serving.{pending_by, regions, Look, nothing, halt, job}
-use Rattle.model.proofs.Acts.{within_all}
 use Rattle.transfer.specs.Requests.{held}
 use Rattle.serving.specs.Turns.{take_prog, next_prog, look_prog}
 use Rattle.serving.specs.Sees.{Sees}
@@ -29,36 +29,36 @@ walk_good bad ok xs ys z e f = absurd (true≢false (sym e ∙ f))
 walk_good (goes ds) ok xs ys z e f = ap goes (sym (f.1 ∙ ap (λ l. l ++ ds) z))
 
 module _ {M : Type 0} (acts : Acts M) (r : Ring) (n s h : ℕ) (m m₁ m₂ : M) (e : h ≡ acts.reads m pair (head_at r s)) (e₁ : m₁ ≡ acts.after m pair (head_at r s))
-    (w : Walk) (k : w ≡ ends acts (chain_prog r.size (ring_bounds r n) 0 false h) m₁) (k₁ : m₂ ≡ leaves acts (chain_prog r.size (ring_bounds r n) 0 false h) m₁) where
+    (w : Walk) (k : w ≡ ends acts (chain_prog r.size r.base r.size h) m₁) (k₁ : m₂ ≡ leaves acts (chain_prog r.size r.base r.size h) m₁) where
   -- the head was read and its chain followed
-  next_ends : ends acts (next_prog r n s) m ≡ ends acts (take_prog h w) m₂
+  next_ends : ends acts (next_prog r n s) m ≡ ends acts (take_prog r n h w) m₂
   unfolding next_prog
   next_ends =
-      ends_get acts pair (head_at r s) (λ x. then (chain_prog r.size (ring_bounds r n) 0 false x) (λ v. take_prog x v)) m m₁ h e e₁
-      ∙ ends_by acts (chain_prog r.size (ring_bounds r n) 0 false h) (λ v. take_prog h v) m₁ m₂ w k k₁
+      ends_get acts pair (head_at r s) (λ x. then (chain_prog r.size r.base r.size x) (λ v. take_prog r n x v)) m m₁ h e e₁
+      ∙ ends_by acts (chain_prog r.size r.base r.size h) (λ v. take_prog r n h v) m₁ m₂ w k k₁
 
-  next_leaves : leaves acts (next_prog r n s) m ≡ leaves acts (take_prog h w) m₂
+  next_leaves : leaves acts (next_prog r n s) m ≡ leaves acts (take_prog r n h w) m₂
   unfolding next_prog
   next_leaves =
-      leaves_get acts pair (head_at r s) (λ x. then (chain_prog r.size (ring_bounds r n) 0 false x) (λ v. take_prog x v)) m m₁ h e e₁
-      ∙ leaves_by acts (chain_prog r.size (ring_bounds r n) 0 false h) (λ v. take_prog h v) m₁ m₂ w k k₁
+      leaves_get acts pair (head_at r s) (λ x. then (chain_prog r.size r.base r.size x) (λ v. take_prog r n x v)) m m₁ h e e₁
+      ∙ leaves_by acts (chain_prog r.size r.base r.size h) (λ v. take_prog r n h v) m₁ m₂ w k k₁
 
   pub next_bad : w ≡ bad → (ends acts (next_prog r n s) m ≡ halt) × (m₂ ≡ leaves acts (next_prog r n s) m)
   unfolding take_prog
   next_bad b = (next_ends ∙ rw b refl, sym (next_leaves ∙ rw b refl))
 
-  pub next_ready : (ds : List Descriptor) (q : List ℕ) (m₃ : M) → w ≡ goes ds →
+  pub next_unusable : (ds : List Descriptor) → w ≡ goes ds → usable (regions r) n false ds ≡ false → (ends acts (next_prog r n s) m ≡ halt) × (m₂ ≡ leaves acts (next_prog r n s) m)
+  unfolding take_prog
+  next_unusable ds b u = (next_ends ∙ rw (b, u) refl, sym (next_leaves ∙ rw (b, u) refl))
+
+  pub next_ready : (ds : List Descriptor) (q : List ℕ) (m₃ : M) → w ≡ goes ds → usable (regions r) n false ds ≡ true →
       q ≡ ends acts (request_prog 19 ds) m₂ → m₃ ≡ leaves acts (request_prog 19 ds) m₂ →
       (ends acts (next_prog r n s) m ≡ job h ds q) × (m₃ ≡ leaves acts (next_prog r n s) m)
   unfolding take_prog
-  next_ready ds q m₃ b g g₁ = (
-    next_ends ∙ rw b (ends_by acts (request_prog 19 ds) (λ x. ret (job h ds x)) m₂ m₃ q g g₁),
-    sym (next_leaves ∙ rw b (leaves_by acts (request_prog 19 ds) (λ x. ret (job h ds x)) m₂ m₃ q g g₁)),
+  next_ready ds q m₃ b u g g₁ = (
+    next_ends ∙ rw (b, u) (ends_by acts (request_prog 19 ds) (λ x. ret (job h ds x)) m₂ m₃ q g g₁),
+    sym (next_leaves ∙ rw (b, u) (leaves_by acts (request_prog 19 ds) (λ x. ret (job h ds x)) m₂ m₃ q g g₁)),
   )
-
-  -- a chain that may be served lies in memory
-  pub next_within : (ds : List Descriptor) → w ≡ goes ds → Within n ds
-  next_within ds b = within_all (regions r) n ds (all_fit (regions r) n false ds (walk_usable acts r.size (ring_bounds r n) 0 false h m₁ (goes ds) (sym k ∙ b)))
 
 module _ {M : Type 0} (acts : Acts M) (r : Ring) (n s c : ℕ) (m m₁ : M) (e : c ≡ acts.reads m pair (available_at r)) (e₁ : m₁ ≡ acts.after m pair (available_at r)) where
   -- the available count was read

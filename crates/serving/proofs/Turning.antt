@@ -1,15 +1,18 @@
 -- Turns, step by step as the code takes them.
-use Rattle.std.proofs.Common.{◌≡◌, ℕ, zero, suc, ◌-◌, ◌<◌, Bool, true, false, cond, List, sym, refl, ap, ◌∙◌, arith}
-use Rattle.vring.specs.Programs.{ret, get, then, pair, Acts, ends, leaves}
-use Rattle.vring.specs.Rings.{Ring, available_at}
+use Rattle.std.proofs.Common.{◌≡◌, ℕ, zero, suc, ◌+◌, ◌-◌, ◌<◌, ◌≤◌, min, Bool, true, false, cond, List, [], ◌∷◌, length, take, sym, refl, ap, ◌∙◌, arith, rules}
+use Rattle.std.proofs.lemmas.List.{places, same_lists}
+use Rattle.vring.specs.Programs.{Prog, ret, then, Acts, ends, leaves}
+use Rattle.vring.specs.Rings.{Ring}
 use Rattle.vring.proofs.Binds.{ends_by, leaves_by, ends_then, leaves_then}
 use Rattle.chains.specs.declared.descriptor.Descriptor.{Descriptor}
 use Rattle.transfer.specs.Responses.{finish_prog}
 use Rattle.device.specs.Device.{Device}
-use Rattle.model.specs.Serving.{pending_by, Look, nothing, halt, job, cut, device_after, halted}
-use Rattle.serving.specs.Turns.{look_prog, Turn, turned, act_prog, turn_prog, run_prog, called, answer_prog, call_prog}
-use Rattle.serving.specs.declared.done.Done.{Done}
-use Rattle.serving.specs.declared.done.Done.TheVariants.{Served, Stopped}
+use Rattle.model.specs.Serving.{Look, nothing, halt, job, cut, device_after, halted}
+use Rattle.serving.specs.Turns.{look_prog, Turn, turned, act_prog, turn_prog, run_prog}
+
+-- the response as it is sent, cut off
+pub cut_bytes : (bytes xs : List ℕ) (len cap : ℕ) → take len bytes ≡ xs → take (min len cap) bytes ≡ take cap xs
+cut_bytes bytes xs len cap e = rw (← e) (same_lists _ _ (search (rules, places)) (λ j d l. grind (arith, places)))
 
 module _ {M : Type 0} (acts : Acts M) (r : Ring) (n : ℕ) (d : Device) (m : M) where
   -- what a turn ends with and leaves
@@ -73,35 +76,3 @@ run_more acts r n d e x m m₁ m₂ (suc f) p t u =
 -- a device is the same if its parts are
 pub same_device : (k k₁ : List ℕ) (s : ℕ) (b : Bool) → k ≡ k₁ → b ≡ false → ◌≡◌ {A = Device} (record { kept = k; served = s; stopped = b }) (record { kept = k₁; served = s; stopped = false })
 same_device k k₁ s b e f = rw (e, f) refl
-
--- ## A call: a run came to e and left m₁
-module _ {M : Type 0} (acts : Acts M) (r : Ring) (n : ℕ) (d e : Device) (m m₁ : M) (f : ℕ) (t : Runs acts r n d m f m₁ e) where
-  -- what a call ends with and leaves
-  abbrev pub Calls : M → Done → Type 0
-  Calls m₂ a = (ends acts (call_prog f r n d) m ≡ called e a) × (m₂ ≡ leaves acts (call_prog f r n d) m)
-
-  call_ends : ends acts (call_prog f r n d) m ≡ ends acts (answer_prog r e) m₁
-  unfolding call_prog
-  call_ends = ends_by acts (run_prog f r n d) (λ x. answer_prog r x) m m₁ e (sym t.0) t.1
-
-  call_leaves : leaves acts (call_prog f r n d) m ≡ leaves acts (answer_prog r e) m₁
-  unfolding call_prog
-  call_leaves = leaves_by acts (run_prog f r n d) (λ x. answer_prog r x) m m₁ e (sym t.0) t.1
-
-  answers_by : e.stopped ≡ false → answer_prog r e ≡ get pair (available_at r) (λ c. ret (called e (Served (pending_by c e.served))))
-  unfolding answer_prog
-  answers_by s = ap (λ b. cond b (ret (called e Stopped)) (get pair (available_at r) (λ c. ret (called e (Served (pending_by c e.served)))))) s
-
-  answers_stopped : e.stopped ≡ true → answer_prog r e ≡ ret (called e Stopped)
-  unfolding answer_prog
-  answers_stopped s = ap (λ b. cond b (ret (called e Stopped)) (get pair (available_at r) (λ c. ret (called e (Served (pending_by c e.served)))))) s
-
-  pub call_stopped : e.stopped ≡ true → Calls m₁ Stopped
-  call_stopped s = (call_ends ∙ ap (λ p. ends acts p m₁) (answers_stopped s), sym (call_leaves ∙ ap (λ p. leaves acts p m₁) (answers_stopped s)))
-
-  -- the available count was read
-  pub call_waits : (m₂ : M) (c : ℕ) → e.stopped ≡ false → c ≡ acts.reads m₁ pair (available_at r) → m₂ ≡ acts.after m₁ pair (available_at r) → Calls m₂ (Served (pending_by c e.served))
-  call_waits m₂ c s v k = (
-    call_ends ∙ (ap (λ p. ends acts p m₁) (answers_by s) ∙ ap (λ x. called e (Served (pending_by x e.served))) (sym v)),
-    k ∙ sym (call_leaves ∙ ap (λ p. leaves acts p m₁) (answers_by s)),
-  )

@@ -1,4 +1,3 @@
 pub mod Turns
 pub mod Sees
 pub mod Entries
-pub mod Admits

@@ -1,19 +1,41 @@
 // The entries: they take whatever they are lent, or refuse it and change nothing.
-ghost use Rattle.std.specs.Prelude.{◌≡◌, ◌+◌, ◌*◌, ◌<◌, ◌≤◌, length};
+ghost use Rattle.std.specs.Prelude.{◌≡◌, ◌+◌, ◌*◌, ◌<◌, ◌≤◌, true, false, List, [], ◌∷◌, length, MatchOption};
 ghost use Rattle.vring.specs.Rings.{ends_at};
 ghost use Rattle.vring.specs.Layouts.{ring_of};
 ghost use Rattle.device.specs.Responds.{device_of};
 ghost use Rattle.model.specs.Promises.{Sound};
-ghost use Rattle.serving.specs.Entries.{state_in, numbers_of, refusal, ServeSays, Serves, Promised, AnewSays, part};
+ghost use Rattle.serving.specs.Entries.{state_ok, device_in, state_in, numbers_of, refusal, ServeSays, Serves, Promised, AnewSays, part};
 
-use crate::admit::{admit, write_state};
-use crate::call::call;
 use crate::done::Done;
+use crate::job::Job;
+use crate::turn::run;
 use device::progress::Progress;
 use vring::layout::Layout;
 use vring::memory::GuestMemory;
 use vring::plain::Plain;
 use vring::words::word_at;
+
+// The state that two numbers say, if they say one.
+fn read_state(state: &[u32]) -> Option<Progress>
+    ensures { MatchOption result (state_ok state.now ≡ false) (λ p. (state_ok state.now ≡ true) × ((k : List _) → device_of p k ≡ device_in state.now k)) }
+{
+    if state.len() != 2 || state[0] >= 65536 || state[1] > 1 {
+        return None;
+    }
+    Some(Progress {
+        served: state[0] as u16,
+        stopped: state[1] == 1,
+    })
+}
+
+// The two numbers that say a state.
+fn write_state(state: &mut [u32], progress: &Progress)
+    requires { length state.old ≡ 2 }
+    ensures { (k : List _) → state.new ≡ numbers_of (device_of progress.now k) }
+{
+    state[0] = progress.served as u32;
+    state[1] = if progress.stopped { 1 } else { 0 };
+}
 
 // At most `times` servings of memory as it stands, from one state to the next, and what is answered then.
 fn serve_plain(
@@ -27,7 +49,15 @@ fn serve_plain(
     ensures { Serves (ring_of layout.now) (record { memory = memory.entry.now; device = device_of progress.old kept.old }) times result memory.exit.now (numbers_of (device_of progress.new kept.new)) kept.new }
 {
     let mut m = Plain { bytes: memory };
-    call(layout, &mut m, progress, kept, times)
+    let mut job = Job::new();
+    run(layout, &mut m, progress, kept, &mut job, times);
+    if progress.stopped {
+        return Done::Stopped;
+    }
+    Done::Served(
+        m.number(layout.available_at())
+            .wrapping_sub(progress.served) as u64,
+    )
 }
 
 // Serves the chains of a ring of `places` descriptors that begins at `begins`, at most `times` of them.
@@ -42,18 +72,20 @@ pub fn serve(
     ensures does { ServeSays (refusal (record { size = places; base = begins }) memory.old state.old kept.old times) (record { size = places; base = begins }) memory.old state.old kept.old times result memory.new state.new kept.new }
     ensures promises { refusal (record { size = places; base = begins }) memory.old state.old kept.old times ≡ 0 → Promised (record { size = places; base = begins }) (state_in memory.old state.old kept.old) times result (state_in memory.new state.new kept.new) }
 {
-    let mut admitted = match admit(places, begins, memory, state, kept, times) {
-        Ok(admitted) => admitted,
-        Err(number) => return Done::Refused(number),
+    let Some(layout) = Layout::new(places, begins, memory.len()) else {
+        return Done::Refused(1);
     };
-    let done = serve_plain(
-        &admitted.layout,
-        memory,
-        &mut admitted.progress,
-        kept,
-        times,
-    );
-    write_state(state, &admitted.progress);
+    let Some(mut progress) = read_state(state) else {
+        return Done::Refused(2);
+    };
+    if kept.len() > 4096 {
+        return Done::Refused(3);
+    }
+    if times > 1000 {
+        return Done::Refused(4);
+    }
+    let done = serve_plain(&layout, memory, &mut progress, kept, times);
+    write_state(state, &progress);
     done
 }
 

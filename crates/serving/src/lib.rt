@@ -1,7 +1,4 @@
 // Chains served, the device reset, and a descriptor's part handed back.
-pub mod admit;
-pub mod admitted;
-pub mod call;
 pub mod done;
 pub mod entries;
 pub mod job;

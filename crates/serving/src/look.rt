@@ -11,6 +11,7 @@ ghost use Rattle.serving.specs.Sees.{Sees};
 
 use crate::job::{Job, Seen};
 use crate::view::View;
+use chains::ring_parts::region_of;
 use transfer::gather::gather;
 use vring::layout::Layout;
 use vring::memory::GuestMemory;
@@ -46,7 +47,7 @@ fn take_next<M: GuestMemory>(layout: &Layout, m: &mut M, served: u16, job: &mut 
     job.chain.clear();
     let good = view.follow(&mut job.chain);
     let m = view.into_memory();
-    if !good {
+    if !good || !job.chain.is_usable(&[region_of(layout)], m.len()) {
         return Seen::Halt;
     }
     gather(m, &job.chain, &mut job.request);

@@ -14,7 +14,7 @@ use crate::job::{Job, Seen};
 use crate::look::look;
 use device::progress::Progress;
 use device::respond::respond;
-use transfer::finish::finish;
+use transfer::finish::{capacity, finish};
 use vring::layout::Layout;
 use vring::memory::GuestMemory;
 
@@ -32,13 +32,14 @@ fn complete<M: GuestMemory>(
     ensures size { holds m.new ≡ holds m.old }
 {
     let response = respond(kept, &job.request);
+    let n = response.len.min(capacity(&job.chain));
     finish(
         layout,
         m,
         progress.served,
         job.head,
         &job.chain,
-        &response.bytes[0..response.len],
+        &response.bytes[0..n],
     );
     progress.served = progress.served.wrapping_add(1);
 }

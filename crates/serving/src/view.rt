@@ -1,13 +1,13 @@
 // A view of one chain: guest memory and the ring in it, borrowed while the chain is followed.
-ghost use Rattle.std.specs.Prelude.{◌≡◌, ◌≤◌, false};
+ghost use Rattle.std.specs.Prelude.{◌≡◌, ◌≤◌};
 ghost use Rattle.vring.specs.Programs.{pair, ends, leaves};
 ghost use Rattle.vring.specs.Rings.{ends_at, head_at};
 ghost use Rattle.vring.specs.Layouts.{ring_of};
-ghost use Rattle.chains.specs.Chains.{ring_bounds, chain_prog, listed, Follows};
+ghost use Rattle.chains.specs.Chains.{chain_prog, listed, Follows};
 
 use chains::chain::Chain;
 use chains::follow::follow;
-use chains::ring_parts::limits_of;
+use chains::ring_parts::table_of;
 use vring::layout::Layout;
 use vring::memory::GuestMemory;
 
@@ -26,16 +26,17 @@ pub struct View<'l, 'm, M> {
 }
 
 impl<'l, 'm, M: GuestMemory> Queue<'l, 'm, M> {
-    // The chain from `head` on, listed in `out`, which lists nothing yet; false where it is bad or may not be served.
+    // The chain from `head` on, listed in `out`, which lists nothing yet; false where it is bad.
     fn follow(&mut self, head: u16, out: &mut Chain) -> bool
         requires { (ends_at (ring_of self.old.layout.now) ≤ holds self.old.memory.now) × (out.old.len ≡ 0) }
-        ensures value { Follows (ends acts (chain_prog self.old.layout.now.size (ring_bounds (ring_of self.old.layout.now) (holds self.old.memory.now)) 0 false head) self.old.memory.now) result (listed out.old) (listed out.new) }
-        ensures then { self.new.memory.now ≡ leaves acts (chain_prog self.old.layout.now.size (ring_bounds (ring_of self.old.layout.now) (holds self.old.memory.now)) 0 false head) self.old.memory.now }
+        ensures value { Follows (ends acts (chain_prog self.old.layout.now.size self.old.layout.now.base self.old.layout.now.size head) self.old.memory.now) result (listed out.old) (listed out.new) }
+        ensures then { self.new.memory.now ≡ leaves acts (chain_prog self.old.layout.now.size self.old.layout.now.base self.old.layout.now.size head) self.old.memory.now }
         ensures size { holds self.new.memory.now ≡ holds self.old.memory.now }
         ensures same { self.new.memory.ghost_name ≡ self.old.memory.ghost_name }
     {
-        let limits = limits_of(self.layout, self.memory.len());
-        follow(&limits, self.memory, head as usize, 0, false, out)
+        let table = table_of(self.layout);
+        let left = self.layout.size;
+        follow(&table, self.memory, head as usize, left, out)
     }
 }
 
@@ -56,11 +57,11 @@ impl<'l, 'm, M: GuestMemory> View<'l, 'm, M> {
         }
     }
 
-    // The chain, listed in `out`, which lists nothing yet; false where it is bad or may not be served.
+    // The chain, listed in `out`, which lists nothing yet; false where it is bad.
     pub fn follow(&mut self, out: &mut Chain) -> bool
         requires { (ends_at (ring_of self.old.queue.layout.now) ≤ holds self.old.queue.memory.now) × (out.old.len ≡ 0) }
-        ensures value { Follows (ends acts (chain_prog self.old.queue.layout.now.size (ring_bounds (ring_of self.old.queue.layout.now) (holds self.old.queue.memory.now)) 0 false self.old.head) self.old.queue.memory.now) result (listed out.old) (listed out.new) }
-        ensures then { self.new.queue.memory.now ≡ leaves acts (chain_prog self.old.queue.layout.now.size (ring_bounds (ring_of self.old.queue.layout.now) (holds self.old.queue.memory.now)) 0 false self.old.head) self.old.queue.memory.now }
+        ensures value { Follows (ends acts (chain_prog self.old.queue.layout.now.size self.old.queue.layout.now.base self.old.queue.layout.now.size self.old.head) self.old.queue.memory.now) result (listed out.old) (listed out.new) }
+        ensures then { self.new.queue.memory.now ≡ leaves acts (chain_prog self.old.queue.layout.now.size self.old.queue.layout.now.base self.old.queue.layout.now.size self.old.head) self.old.queue.memory.now }
         ensures size { holds self.new.queue.memory.now ≡ holds self.old.queue.memory.now }
         ensures same { self.new.queue.memory.ghost_name ≡ self.old.queue.memory.ghost_name }
     {

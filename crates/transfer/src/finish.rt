@@ -1,5 +1,5 @@
 // What a serving writes into guest memory.
-ghost use Rattle.std.specs.Prelude.{◌≡◌, ◌+◌, ◌<◌, ◌≤◌, min, length, take};
+ghost use Rattle.std.specs.Prelude.{◌≡◌, ◌+◌, ◌<◌, ◌≤◌, length};
 ghost use Rattle.vring.specs.Programs.{leaves};
 ghost use Rattle.vring.specs.Rings.{ends_at};
 ghost use Rattle.vring.specs.Layouts.{ring_of};
@@ -11,10 +11,22 @@ use chains::descriptor::Descriptor;
 use vring::layout::Layout;
 use vring::memory::GuestMemory;
 
-// The response into the writable descriptors, in order, and how many bytes of it found a place; the others are cut off.
-fn fill<M: GuestMemory>(m: &mut M, chain: &Chain, response: &[u8]) -> usize
+// How many bytes a response may have.
+pub fn capacity(chain: &Chain) -> usize
+    ensures { result ≡ capacity (listed chain.now) }
+{
+    let mut sum: usize = 0;
+    for d in &chain.at[..chain.len] {
+        if d.is_writable() {
+            sum += d.len as usize;
+        }
+    }
+    sum
+}
+
+// The response into the writable descriptors, in order; what finds no place is cut off.
+fn fill<M: GuestMemory>(m: &mut M, chain: &Chain, response: &[u8])
     requires { Within (holds m.old) (listed chain.now) }
-    ensures value { result ≡ min (length response.now) (capacity (listed chain.now)) }
     ensures then { m.new ≡ leaves acts (fill_prog (listed chain.now) response.now) m.old }
     ensures size { holds m.new ≡ holds m.old }
 {
@@ -25,12 +37,8 @@ fn fill<M: GuestMemory>(m: &mut M, chain: &Chain, response: &[u8]) -> usize
             let n = (d.len as usize).min(left);
             m.put_bytes(d.addr as usize, &response[used..used + n]);
             used += n;
-            if used == response.len() {
-                return used;
-            }
         }
     }
-    used
 }
 
 // The `k`-th used entry, and then the used count.
@@ -45,7 +53,7 @@ fn put_used<M: GuestMemory>(layout: &Layout, m: &mut M, k: u16, head: u16, len: 
     m.put_number(layout.used_at(), k.wrapping_add(1));
 }
 
-// The response, cut off at the capacity, into the chain, which is the `k`-th and begins with `head`; and then that it is used.
+// The response into the chain, which is the `k`-th and begins with `head`, and then that it is used.
 pub fn finish<M: GuestMemory>(
     layout: &Layout,
     m: &mut M,
@@ -55,9 +63,9 @@ pub fn finish<M: GuestMemory>(
     response: &[u8],
 )
     requires { (ends_at (ring_of layout.now) ≤ holds m.old) × ((Within (holds m.old) (listed chain.now)) × (length response.now < 65536)) }
-    ensures then { m.new ≡ leaves acts (finish_prog (ring_of layout.now) k head (listed chain.now) (take (capacity (listed chain.now)) response.now)) m.old }
+    ensures then { m.new ≡ leaves acts (finish_prog (ring_of layout.now) k head (listed chain.now) response.now) m.old }
     ensures size { holds m.new ≡ holds m.old }
 {
-    let used = fill(m, chain, response);
-    put_used(layout, m, k, head, used as u16);
+    fill(m, chain, response);
+    put_used(layout, m, k, head, response.len() as u16);
 }

@@ -1,4 +1,4 @@
-// A request gathered from guest memory.
+// A request gathered from guest memory byte by byte.
 ghost use Rattle.std.specs.Prelude.{◌≡◌, ◌+◌, ◌<◌, ◌≤◌, [], ◌∷◌, ◌++◌};
 ghost use Rattle.vring.specs.Programs.{ends, leaves, get_bytes};
 ghost use Rattle.chains.specs.Chains.{listed};
@@ -29,6 +29,16 @@ impl Request {
     {
         self.len = 0;
     }
+
+    // One byte more.
+    fn push(&mut self, b: u8)
+        requires { self.old.len < 19 }
+        ensures items { held self.new ≡ held self.old ++ b ∷ [] }
+        ensures len { self.new.len ≡ self.old.len + 1 }
+    {
+        self.bytes[self.len] = b;
+        self.len += 1;
+    }
 }
 
 // The `n` bytes from an address on, behind what `out` has.
@@ -39,9 +49,12 @@ fn take_bytes<M: GuestMemory>(m: &mut M, at: usize, n: usize, out: &mut Request)
     ensures then { m.new ≡ leaves acts (get_bytes n at) m.old }
     ensures size { holds m.new ≡ holds m.old }
 {
-    let end = out.len + n;
-    m.bytes(at, &mut out.bytes[out.len..end]);
-    out.len = end;
+    if n == 0 {
+        return;
+    }
+    let b = m.byte(at);
+    out.push(b);
+    take_bytes(m, at + 1, n - 1, out);
 }
 
 // The first bytes of what a chain asks, into `out`.
@@ -54,12 +67,8 @@ pub fn gather<M: GuestMemory>(m: &mut M, chain: &Chain, out: &mut Request)
     out.clear();
     for d in &chain.at[..chain.len] {
         if !d.is_writable() {
-            let room = 19 - out.len;
-            let n = (d.len as usize).min(room);
+            let n = (d.len as usize).min(19 - out.len);
             take_bytes(m, d.addr as usize, n, out);
-            if n == room {
-                return;
-            }
         }
     }
 }

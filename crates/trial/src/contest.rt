@@ -1,14 +1,12 @@
 // The entries beside the plain reading, on one memory after another.
-use crate::calls::{by_entry, by_rules, in_words};
 use crate::guest::Guest;
 use crate::offers::offer_chains;
-use crate::races::Races;
 use crate::random::Random;
-use crate::reading::{Reading, part_of, reset};
+use crate::reading::{Answer, Reading, part_of, reset};
 use crate::refusals::{budget, mislead};
 use crate::spoils::spoil;
 use serving::done::Done;
-use serving::entries::{begin_anew, piece};
+use serving::entries::{begin_anew, piece, serve};
 use std::alloc::{AllocError, Global};
 
 // What was seen.
@@ -19,9 +17,6 @@ pub struct Tally {
     pub stopped: u64,
     pub reset: u64,
     pub refused: u64,
-    // Calls of guests that go on writing, and the chains served in them.
-    pub raced: u64,
-    pub raced_chains: u64,
     pub differ: u64,
     // The first memory at which the two differ.
     pub first: Option<u64>,
@@ -33,8 +28,41 @@ pub struct Contest {
     guest: Guest,
     other: Guest,
     reading: Reading,
-    races: Races,
     pub tally: Tally,
+}
+
+// The answer of an entry, in the reading's words.
+fn in_words(done: Done) -> Answer {
+    match done {
+        Done::Served(n) => Answer::Served(n),
+        Done::Stopped => Answer::Stopped,
+        Done::Anew => Answer::Anew,
+        Done::Refused(n) => Answer::Refused(n),
+    }
+}
+
+// Serves by the entry.
+fn by_entry(g: &mut Guest, times: u64) -> Done {
+    serve(
+        g.places,
+        g.begins,
+        &mut g.memory,
+        &mut g.state,
+        &mut g.kept,
+        times,
+    )
+}
+
+// Serves by the reading.
+fn by_rules(g: &mut Guest, reading: &mut Reading, times: u64) -> Result<Answer, AllocError> {
+    reading.serve(
+        g.places,
+        g.begins,
+        &mut g.memory,
+        &mut g.state,
+        &mut g.kept,
+        times,
+    )
 }
 
 // Lets any number of chains wait.
@@ -50,7 +78,6 @@ impl Contest {
             guest: Guest::new(heap),
             other: Guest::new(heap),
             reading: Reading::new(heap),
-            races: Races::new(heap),
             tally: Tally::default(),
         }
     }
@@ -132,28 +159,11 @@ impl Contest {
         Ok(agree)
     }
 
-    // Lets a copy of the guest go on writing for a few calls; true where both sides agree.
-    fn goes_on_writing(&mut self, r: &mut Random) -> Result<bool, AllocError> {
-        self.races.start(&self.guest)?;
-        for _ in 0..r.up_to(3) {
-            let Some(count) = self.races.call(r)? else {
-                return Ok(false);
-            };
-            self.tally.raced = self.tally.raced.wrapping_add(1);
-            self.tally.raced_chains = self.tally.raced_chains.wrapping_add(count as u64);
-        }
-        Ok(true)
-    }
-
     // Tries case `number`; true where both sides agree throughout.
     fn agrees(&mut self, number: u64) -> Result<bool, AllocError> {
         let mut r = Random::new(number);
-        let mut apart = Random::new(!number);
         self.begin(&mut r)?;
         for _ in 0..4 {
-            if apart.once_in(6) && !self.goes_on_writing(&mut apart)? {
-                return Ok(false);
-            }
             if !self.serves(budget(&mut r))? || !self.shows(&mut r) {
                 return Ok(false);
             }

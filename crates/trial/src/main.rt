@@ -1,17 +1,13 @@
 // Holds the entries to a plain reading of the rules, on many random memories.
 // The first argument says how many, and the second the number of the first one.
-mod calls;
 mod contest;
 mod frame;
 mod guest;
 mod offers;
-mod race;
-mod races;
 mod random;
 mod reading;
 mod refusals;
 mod spoils;
-mod teller;
 
 use anyhow::anyhow;
 use contest::{Contest, Tally};
@@ -45,11 +41,9 @@ fn say(rt: &HostRuntime, t: &Tally) -> anyhow::Result<()> {
     let stopped = t.stopped;
     let reset = t.reset;
     let refused = t.refused;
-    let raced = t.raced;
-    let chains = t.raced_chains;
     let differ = t.differ;
     println!(rt;
-        "{memories} memories: {served} chains served, {stopped} stopped, {reset} reset, {refused} refused, {raced} calls raced with {chains} chains served, {differ} differ"
+        "{memories} memories: {served} chains served, {stopped} stopped, {reset} reset, {refused} refused, {differ} differ"
     )?;
     Ok(())
 }

@@ -14,25 +14,25 @@ pub enum Answer {
 
 // A ring of so many places, which begins there.
 #[derive(Clone, Copy)]
-pub struct Ring {
-    pub places: u16,
+struct Ring {
+    places: u16,
     begins: u32,
     ghost some: { 0 < places },
 }
 
 // The part of memory that a descriptor names.
 #[derive(Clone, Copy)]
-pub struct Part {
-    pub addr: u16,
-    pub len: u16,
-    pub is_writable: bool,
+struct Part {
+    addr: u16,
+    len: u16,
+    is_writable: bool,
 }
 
 // What the device knows of itself.
 #[derive(Clone, Copy)]
-pub struct Device {
-    pub served: u16,
-    pub has_stopped: bool,
+struct Device {
+    served: u16,
+    has_stopped: bool,
 }
 
 impl Device {
@@ -48,7 +48,7 @@ impl Device {
     }
 
     // Sets the two numbers of a state.
-    pub fn write_to(self, state: &mut [u32]) {
+    fn write_to(self, state: &mut [u32]) {
         if state.len() == 2 {
             state[0] = self.served as u32;
             state[1] = if self.has_stopped { 1 } else { 0 };
@@ -57,7 +57,7 @@ impl Device {
 }
 
 // The number of two bytes.
-pub fn number(memory: &[u8], at: usize) -> u16 {
+fn number(memory: &[u8], at: usize) -> u16 {
     let low = memory.get(at).copied().unwrap_or(0);
     let high = memory.get(at.wrapping_add(1)).copied().unwrap_or(0);
     low as u16 + 256 * high as u16
@@ -93,17 +93,17 @@ impl Ring {
     }
 
     // Where a number of descriptor `i` stands, so many bytes from the descriptor's first.
-    pub fn descriptor(self, i: u16, offset: u8) -> usize {
+    fn descriptor(self, i: u16, offset: u8) -> usize {
         self.begins as usize + 8 * i as usize + offset as usize
     }
 
     // Where the available count stands.
-    pub fn available(self) -> usize {
+    fn available(self) -> usize {
         self.begins as usize + 8 * self.places as usize
     }
 
     // Where the `k`-th head stands.
-    pub fn head(self, k: u16) -> usize {
+    fn head(self, k: u16) -> usize {
         self.begins as usize + 8 * self.places as usize + 2 + 2 * (k % self.places) as usize
     }
 
@@ -132,7 +132,7 @@ impl Ring {
     }
 
     // Whether a part lies in memory, and wholly before the ring or wholly behind it.
-    pub fn is_beside(self, p: Part, size: usize) -> bool {
+    fn is_beside(self, p: Part, size: usize) -> bool {
         let from = p.addr as usize;
         let to = from + p.len as usize;
         to <= size && (to <= self.begins as usize || self.end() <= from)
@@ -229,35 +229,11 @@ fn respond(kept: &mut [u8], request: &[u8], response: &mut Vec<u8>) -> Result<()
     Ok(())
 }
 
-// The ring and the device of a call, or the number that it is refused with.
-pub fn admit(
-    places: u64,
-    begins: u64,
-    memory: &[u8],
-    state: &[u32],
-    kept: &[u8],
-    times: u64,
-) -> Result<(Ring, Device), u64> {
-    let Some(ring) = Ring::new(places, begins, memory.len()) else {
-        return Err(1);
-    };
-    let Some(device) = Device::read_from(state) else {
-        return Err(2);
-    };
-    if kept.len() > 4096 {
-        return Err(3);
-    }
-    if times > 1000 {
-        return Err(4);
-    }
-    Ok((ring, device))
-}
-
 // Room for the chain that is looked at.
 #[derive(Drop)]
 pub struct Reading {
-    pub parts: Vec<Part>,
-    pub request: Vec<u8>,
+    parts: Vec<Part>,
+    request: Vec<u8>,
     response: Vec<u8>,
 }
 
@@ -271,8 +247,8 @@ impl Reading {
         }
     }
 
-    // Answers a chain whose parts and request are known.
-    pub fn finish(
+    // Answers a chain whose parts are known.
+    fn finish(
         &mut self,
         ring: Ring,
         memory: &mut [u8],
@@ -280,6 +256,7 @@ impl Reading {
         kept: &mut [u8],
         head: u16,
     ) -> Result<(), AllocError> {
+        read_request(memory, &self.parts, &mut self.request)?;
         respond(kept, &self.request, &mut self.response)?;
         let len = (self.response.len() as u64).min(capacity(&self.parts));
         write_response(memory, &self.parts, &self.response);
@@ -310,7 +287,6 @@ impl Reading {
             device.has_stopped = true;
             return Ok(false);
         }
-        read_request(memory, &self.parts, &mut self.request)?;
         self.finish(ring, memory, device, kept, head)?;
         Ok(true)
     }
@@ -325,10 +301,18 @@ impl Reading {
         kept: &mut [u8],
         times: u64,
     ) -> Result<Answer, AllocError> {
-        let (ring, mut device) = match admit(places, begins, memory, state, kept, times) {
-            Ok(admitted) => admitted,
-            Err(number) => return Ok(Answer::Refused(number)),
+        let Some(ring) = Ring::new(places, begins, memory.len()) else {
+            return Ok(Answer::Refused(1));
         };
+        let Some(mut device) = Device::read_from(state) else {
+            return Ok(Answer::Refused(2));
+        };
+        if kept.len() > 4096 {
+            return Ok(Answer::Refused(3));
+        }
+        if times > 1000 {
+            return Ok(Answer::Refused(4));
+        }
         self.serve_all(ring, memory, &mut device, kept, times)?;
         device.write_to(state);
         if device.has_stopped {

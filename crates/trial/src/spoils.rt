@@ -1,14 +1,13 @@
 // What a guest does that it should not, or that looks so.
-use crate::frame::Frame;
 use crate::guest::{Descriptor, Guest};
 use crate::random::Random;
 
 // An address and a length at the edge of the ring or of memory, on this side of it or on that.
-pub fn edge(frame: Frame, r: &mut Random) -> (u16, u16) {
+fn edge(g: &Guest, r: &mut Random) -> (u16, u16) {
     let len = r.pick(&[0, 1, 2, 2, 17, 18]);
-    let base = frame.base;
-    let end = frame.end_word();
-    let size = frame.size_word();
+    let base = g.frame.base;
+    let end = g.frame.end_word();
+    let size = g.frame.size_word();
     match r.below(14) {
         0 => (base.wrapping_sub(len), len),
         1 => (base.wrapping_sub(len), len.wrapping_add(1)),
@@ -30,7 +29,7 @@ pub fn edge(frame: Frame, r: &mut Random) -> (u16, u16) {
 // Gives one descriptor a part at an edge.
 fn move_to_edge(g: &mut Guest, r: &mut Random) {
     let i = r.below(g.frame.n);
-    let (addr, len) = edge(g.frame, r);
+    let (addr, len) = edge(g, r);
     g.put_field(i, 0, addr);
     g.put_field(i, 1, len);
 }

@@ -1,8 +1,6 @@
--- The sizes of rings, by tests over all of them up to 64, and numbers that are written and read.
+-- The sizes of rings, by a test over all of them up to 64, and numbers that are written and read.
 use Rattle.std.proofs.Common.{◌≡◌, ℕ, zero, suc, ◌+◌, ◌-◌, ◌*◌, ◌/◌, ◌%◌, ◌<◌, ◌≤◌, Bool, true, false, not, ◌&&◌, ◌||◌, eqb, leb, ◌⊎◌, List, [], ◌∷◌, length, get_or, sym, refl, ap, ◌∙◌, inl, inr, arith}
-use lib.Bits.{bit_and}
-use Rattle.std.proofs.lemmas.Nat.{and_mask}
-use Rattle.std.proofs.lemmas.Bool.{and_parts, and_right, or_cases, leb-true, le-leb, lt-leb, eqb-true, eq-eqb, cases_eq}
+use Rattle.std.proofs.lemmas.Bool.{and_parts, or_cases, leb-true, eqb-true, eq-eqb, cases_eq}
 use Rattle.vring.specs.Words.{word, two, set_bytes}
 use Rattle.vring.specs.Rings.{size_ok}
 use Rattle.vring.specs.Laws.{OneOf, SizesMean, NumberStays}
@@ -32,11 +30,9 @@ tested : all_among (1 ∷ 2 ∷ 4 ∷ 8 ∷ 16 ∷ 32 ∷ 64 ∷ []) 64 ≡ true
 unfolding size_ok
 tested = refl
 
-pub size_facts : (s : ℕ) → size_ok s ≡ true → (0 < s) × (s ≤ 64) × (65536 % s ≡ 0)
+few : (s : ℕ) → size_ok s ≡ true → s ≤ 64
 unfolding size_ok
-size_facts s e =
-    let p = and_parts (leb 1 s) (leb s 64 && eqb (65536 % s) 0) e in let q = and_parts (leb s 64) (eqb (65536 % s) 0) p.1 in
-    (leb-true 1 s p.0, leb-true s 64 q.0, eqb-true (65536 % s) 0 q.1)
+few s e = leb-true s 64 (and_parts (leb s 64) (eqb (65536 % s) 0) (and_parts (leb 1 s) (leb s 64 && eqb (65536 % s) 0) e).1).0
 
 from_test : (a b : Bool) → (not a || b) ≡ true → a ≡ true → b ≡ true
 from_test true b e h = e
@@ -55,64 +51,9 @@ to_size s (inr (inr (inr (inr (inr (inr (inr e))))))) = absurd e
 
 pub sizes_mean : SizesMean
 sizes_mean s = (
-  λ e. one_of (1 ∷ 2 ∷ 4 ∷ 8 ∷ 16 ∷ 32 ∷ 64 ∷ []) s (from_test (size_ok s) (among (1 ∷ 2 ∷ 4 ∷ 8 ∷ 16 ∷ 32 ∷ 64 ∷ []) s) (at_each (1 ∷ 2 ∷ 4 ∷ 8 ∷ 16 ∷ 32 ∷ 64 ∷ []) 64 s tested (size_facts s e).1) e),
+  λ e. one_of (1 ∷ 2 ∷ 4 ∷ 8 ∷ 16 ∷ 32 ∷ 64 ∷ []) s (from_test (size_ok s) (among (1 ∷ 2 ∷ 4 ∷ 8 ∷ 16 ∷ 32 ∷ 64 ∷ []) s) (at_each (1 ∷ 2 ∷ 4 ∷ 8 ∷ 16 ∷ 32 ∷ 64 ∷ []) 64 s tested (few s e)) e),
   to_size s,
 )
-
--- ## Sizes are powers of two
--- the test of the code says the same of each size up to n
-abbrev same : Bool → Bool → Bool
-same true b = b
-same false b = not b
-
-abbrev all_same : (n : ℕ) → Bool
-all_same zero = true
-all_same (suc n) = same (eqb (bit_and (suc n) n) 0) (eqb (65536 % suc n) 0) && all_same n
-
-tested_same : all_same 64 ≡ true
-tested_same = refl
-
-same_as : (a b : Bool) → same a b ≡ true → a ≡ b
-same_as true b e = sym e
-same_as false true e = e
-same_as false false e = refl
-
-each_same : (n s : ℕ) → all_same n ≡ true → suc s ≤ n → eqb (bit_and (suc s) s) 0 ≡ eqb (65536 % suc s) 0
-each_same zero s e l = absurd (omega arith)
-each_same (suc n) s e l =
-    let p = and_parts (same (eqb (bit_and (suc n) n) 0) (eqb (65536 % suc n) 0)) (all_same n) e in
-    elim (cases_eq s n) [ inl z ↦ rw z (same_as _ _ p.0) | inr z ↦ each_same n s p.1 (omega arith) ]
-
-power_test : (s : ℕ) → 0 < s → s ≤ 64 → eqb (bit_and s (s - 1)) 0 ≡ eqb (65536 % s) 0
-power_test zero p l = absurd (omega arith)
-power_test (suc s) p l = let e : suc s - 1 ≡ s = omega arith in rw e (each_same 64 s tested_same l)
-
-pub size_test : (s : ℕ) → 0 < s → s ≤ 64 → eqb (bit_and s (s - 1)) 0 ≡ size_ok s
-unfolding size_ok
-size_test s p l = power_test s p l ∙ sym (rw (le-leb 1 s p, le-leb s 64 l) refl)
-
-pub size_zero : (s : ℕ) → s ≡ 0 → false ≡ size_ok s
-unfolding size_ok
-size_zero s e = rw e refl
-
-pub size_large : (s : ℕ) → 64 < s → false ≡ size_ok s
-unfolding size_ok
-size_large s l = sym (rw (lt-leb s 64 l) (and_right (leb 1 s) false refl))
-
--- so what is left by one is its lowest bits
-mask_of : (k s : ℕ) → OneOf (1 ∷ 2 ∷ 4 ∷ 8 ∷ 16 ∷ 32 ∷ 64 ∷ []) s → bit_and k (s - 1) ≡ k % s
-mask_of k s (inl e) = rw e (and_mask k 0)
-mask_of k s (inr (inl e)) = rw e (and_mask k 1)
-mask_of k s (inr (inr (inl e))) = rw e (and_mask k 2)
-mask_of k s (inr (inr (inr (inl e)))) = rw e (and_mask k 3)
-mask_of k s (inr (inr (inr (inr (inl e))))) = rw e (and_mask k 4)
-mask_of k s (inr (inr (inr (inr (inr (inl e)))))) = rw e (and_mask k 5)
-mask_of k s (inr (inr (inr (inr (inr (inr (inl e))))))) = rw e (and_mask k 6)
-mask_of k s (inr (inr (inr (inr (inr (inr (inr e))))))) = absurd e
-
-pub masked : (k s : ℕ) → 0 < s → s ≤ 64 → 65536 % s ≡ 0 → bit_and k (s - 1) ≡ k % s
-unfolding size_ok
-masked k s p l e = mask_of k s ((sizes_mean s).0 (rw (le-leb 1 s p, le-leb s 64 l, eq-eqb (65536 % s) 0 e) refl))
 
 pub number_stays : NumberStays
 unfolding two

@@ -1,5 +1,5 @@
 // A ring's size and base, checked.
-ghost use Rattle.std.specs.Prelude.{◌≡◌, ◌%◌, ◌<◌, ◌≤◌};
+ghost use Rattle.std.specs.Prelude.{◌<◌, ◌≤◌};
 
 // A ring of `size` descriptors that stands in memory from `base` on.
 #[derive(Clone, Copy)]
@@ -8,6 +8,5 @@ pub struct Layout {
     pub base: usize,
     ghost some: { 0 < size },
     ghost few: { size ≤ 64 },
-    ghost even: { 65536 % size ≡ 0 },
     ghost near: { base ≤ 65536 },
 }

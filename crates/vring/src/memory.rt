@@ -1,8 +1,8 @@
 // Guest memory of any kind: two reads of one address may find different bytes.
 ghost use Rattle.std.specs.Prelude.{◌≡◌, ℕ, ◌+◌, ◌<◌, ◌≤◌, length};
-ghost use Rattle.vring.specs.Programs.{Acts, pair, ends, leaves, get_bytes, put_bytes};
+ghost use Rattle.vring.specs.Programs.{Acts, byte as one, pair, leaves, put_bytes};
 
-// What a device may do with a guest's memory: read and write a number or a row of bytes.
+// What a device may do with a guest's memory: read a byte or a number, write a number or a row of bytes.
 pub trait GuestMemory {
     ghost holds: { Self → ℕ };
 
@@ -12,18 +12,18 @@ pub trait GuestMemory {
     fn len(&self) -> usize
         ensures { result ≡ holds self.now };
 
+    // The byte at an address.
+    fn byte(&mut self, at: usize) -> u8
+        requires { at < holds self.old }
+        ensures value { result ≡ acts.reads self.old one at }
+        ensures then { self.new ≡ acts.after self.old one at }
+        ensures size { holds self.new ≡ holds self.old };
+
     // The number at an address.
     fn number(&mut self, at: usize) -> u16
         requires { at + 1 < holds self.old }
         ensures value { result ≡ acts.reads self.old pair at }
         ensures then { self.new ≡ acts.after self.old pair at }
-        ensures size { holds self.new ≡ holds self.old };
-
-    // Reads bytes from an address on, as many as `into` has, one after the other.
-    fn bytes(&mut self, at: usize, into: &mut [u8])
-        requires { at + length into.old ≤ holds self.old }
-        ensures value { into.new ≡ ends acts (get_bytes (length into.old) at) self.old }
-        ensures then { self.new ≡ leaves acts (get_bytes (length into.old) at) self.old }
         ensures size { holds self.new ≡ holds self.old };
 
     // Writes the number at an address.

@@ -4,7 +4,14 @@ ghost use Rattle.vring.specs.Plain.{lent};
 
 use crate::memory::GuestMemory;
 use crate::plain::Plain;
-use crate::words::{put_row_at, put_word_at, row_at};
+
+// The bytes of `from` into `into`, which is as long.
+fn copy(into: &mut [u8], from: &[u8])
+    requires { length into.old ≡ length from.now }
+    ensures { into.new ≡ from.now }
+{
+    into.copy_from_slice(from);
+}
 
 impl GuestMemory for Plain<'_> {
     ghost holds = { λ s. length s.bytes.now };
@@ -15,19 +22,22 @@ impl GuestMemory for Plain<'_> {
         self.bytes.len()
     }
 
+    fn byte(&mut self, at: usize) -> u8 {
+        self.bytes[at]
+    }
+
     fn number(&mut self, at: usize) -> u16 {
         u16::from_le_bytes([self.bytes[at], self.bytes[at + 1]])
     }
 
-    fn bytes(&mut self, at: usize, into: &mut [u8]) {
-        row_at(self.bytes, at, into);
-    }
-
     fn put_number(&mut self, at: usize, value: u16) {
-        put_word_at(self.bytes, at, value);
+        let b = value.to_le_bytes();
+        self.bytes[at] = b[0];
+        self.bytes[at + 1] = b[1];
     }
 
     fn put_bytes(&mut self, at: usize, from: &[u8]) {
-        put_row_at(self.bytes, at, from);
+        let end = at + from.len();
+        copy(&mut self.bytes[at..end], from);
     }
 }

@@ -1,20 +1,9 @@
 // Where the parts of a ring stand.
-ghost use Rattle.std.specs.Prelude.{◌≡◌, ◌+◌, ◌*◌, ◌%◌, ◌<◌, ◌≤◌, true, IfSome};
-ghost use Rattle.vring.specs.Rings.{Ring, size_ok, available_at, used_at, ends_at, head_at, entry_at};
+ghost use Rattle.std.specs.Prelude.{◌≡◌, ◌+◌, ◌*◌, ◌<◌, ◌≤◌, IfSome};
+ghost use Rattle.vring.specs.Rings.{Ring, available_at, used_at, ends_at, head_at, entry_at};
 ghost use Rattle.vring.specs.Layouts.{ring_of, Placed};
 
 use crate::layout::Layout;
-
-// Whether a ring may have so many places: a power of two, up to 64.
-pub fn is_size(size: u64) -> bool
-    ensures value { result ≡ size_ok size }
-    ensures facts { result ≡ true → (0 < size) × (size ≤ 64) × (65536 % size ≡ 0) }
-{
-    if size == 0 || size > 64 {
-        return false;
-    }
-    size & (size - 1) == 0
-}
 
 impl Layout {
     // The ring of `size` descriptors from `base` on, if it may stand in a memory of `n` bytes.
@@ -22,7 +11,7 @@ impl Layout {
         ensures placed { Placed (record { size = size; base = base }) n result }
         ensures fits { IfSome result (λ l. (ends_at (ring_of l) ≤ n) × (n ≤ 65536)) }
     {
-        if !is_size(size) || base > 65536 || n > 65536 {
+        if size == 0 || size > 64 || 65536 % size != 0 || base > 65536 || n > 65536 {
             return None;
         }
         let layout = Layout {
@@ -57,20 +46,12 @@ impl Layout {
         self.used_at() + (2 + 4 * self.size)
     }
 
-    // The place of the `k`-th, which is what is left of k by the size: that is a power of two.
-    fn place(&self, k: u16) -> usize
-        ensures value { result ≡ k % self.now.size }
-        ensures below { result < self.now.size }
-    {
-        k as usize & (self.size - 1)
-    }
-
     // Where the `k`-th head stands.
     pub fn head_at(&self, k: u16) -> usize
         ensures value { result ≡ head_at (ring_of self.now) k }
         ensures within { result + 2 ≤ used_at (ring_of self.now) }
     {
-        self.available_at() + (2 + 2 * self.place(k))
+        self.available_at() + (2 + 2 * (k as usize % self.size))
     }
 
     // Where the `k`-th used entry stands.
@@ -78,6 +59,6 @@ impl Layout {
         ensures value { result ≡ entry_at (ring_of self.now) k }
         ensures within { result + 4 ≤ ends_at (ring_of self.now) }
     {
-        self.used_at() + (2 + 4 * self.place(k))
+        self.used_at() + (2 + 4 * (k as usize % self.size))
     }
 }

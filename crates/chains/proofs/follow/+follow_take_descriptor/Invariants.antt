@@ -1,9 +1,9 @@
-use Rattle.std.proofs.Common.{◌+◌, ◌-◌, ◌*◌}
+use Rattle.std.proofs.Common.{◌+◌, ◌*◌}
 use Rattle.chains.proofs.follow.+follow_take_descriptor.Given as goal
 
 -- the two call each other: a turn of both takes one of what is left
 abbrev pub decreases-follow : goal.decreases-follow
-decreases-follow g l = 2 * (l.limits.now.table.count - l.out.now.len) + 1
+decreases-follow g l = 2 * l.left + 1
 
 abbrev pub decreases-take-descriptor : goal.decreases-take-descriptor
-decreases-take-descriptor g l = 2 * (l.limits.now.table.count - l.out.now.len)
+decreases-take-descriptor g l = 2 * l.left

@@ -1,34 +1,37 @@
-use Rattle.std.proofs.Common.{sym, ◌∙◌}
+use Rattle.std.proofs.Common.{◌≡◌, ◌+◌, ◌-◌, ◌≤◌, min, length, get_or, take, drop, sym, refl, ap, ◌∙◌, arith, rules}
+use Rattle.std.proofs.lemmas.List.{at_drop_all}
+use Rattle.vring.specs.Programs.{leaves, put_bytes}
+use Rattle.transfer.specs.Responses.{fill_prog}
 use Rattle.chains.specs.Chains.{listed}
-use Rattle.transfer.proofs.Fills.{fill_skip, fill_write, fill_all, fill_done}
+use Rattle.transfer.proofs.Fills.{fill_skip, fill_write, cut}
 use Rattle.transfer.proofs.finish.fill.Goals as goal
 
 pub loop-d-preserved : goal.loop-d-preserved
 loop-d-preserved g c =
-    let acts = g.M.GuestMemory.acts in let ds = listed c.args.chain.now in let x = c.args.response.now in let i = c.loop-d.d-index in let u = c.loop-d.used in let m = c.loop-d.m in
+    let ds = listed c.args.chain.now in let x = c.args.response.now in let u = c.loop-d.used in let m = c.loop-d.m in
     elim c.if-is-writable.branch [
-      | goal.then-is-writable+else-used-response w ↦
-          rw (w.used-is, w.m-is) (
-            w.put_bytes.ensures.size ∙ c.loop-d.invariant.0,
-            fill_write acts ds x c.args.m.now i u m c.loop-d.invariant.1 _ w.min-n.result _ c.loop-d-test.true (sym c.is-writable.ensures ∙ w.if-is-writable.true) w.min-n.ensures w.put_bytes.ensures.then,
+      | goal.then-is-writable w ↦
+          let acts = g.M.GuestMemory.acts in
+          let d = get_or ds c.loop-d.d-index (record { addr = 0; len = 0; flags = 0 }) in let n = w.min-n.result in
+          let parts = cut d.len u x in
+          let k : n ≡ min d.len (length x - u) = w.min-n.ensures in
+          let e : (u + n) - u ≡ min d.len (length x - u) = omega arith in
+          let m₁ = w.put_bytes.ensures.then ∙ ap (λ ys. leaves acts (put_bytes d.addr ys) m) (ap (λ j. take j (drop u x)) e ∙ parts.0) in
+          let rest = ap (λ j. drop (u + j) x) k ∙ parts.1 in
+          let b : c.if-is-writable.used ≤ length x = omega arith in (
+            b,
+            rw w.m-is (w.put_bytes.ensures.size ∙ c.loop-d.invariant.1),
+            rw (w.used-is, w.m-is, rest) (fill_write acts ds c.loop-d.d-index _ (drop u x) m c.loop-d-test.true _ (sym c.is-writable.ensures ∙ w.if-is-writable.true) m₁ ∙ c.loop-d.invariant.2),
           )
-      | goal.else-is-writable w ↦
-          rw (w.used-is, w.m-is) (
-            c.loop-d.invariant.0,
-            fill_skip acts ds x c.args.m.now i u m c.loop-d.invariant.1 _ c.loop-d-test.true (sym c.is-writable.ensures ∙ w.if-is-writable.false),
-          )
+      | goal.else-is-writable w ↦ (
+        rw w.used-is c.loop-d.invariant.0,
+        rw w.m-is c.loop-d.invariant.1,
+        rw (w.used-is, w.m-is) (fill_skip g.M.GuestMemory.acts ds c.loop-d.d-index _ (drop u x) m c.loop-d-test.true (sym c.is-writable.ensures ∙ w.if-is-writable.false) ∙ c.loop-d.invariant.2),
+      )
     ]
 
--- all of the response is written
-pub returns-then-used-response : goal.returns-then-used-response
-returns-then-used-response g c =
-    let acts = g.M.GuestMemory.acts in let ds = listed c.args.chain.now in let x = c.args.response.now in let i = c.loop-d.d-index in let u = c.loop-d.used in let m = c.loop-d.m in
-    let w = fill_write acts ds x c.args.m.now i u m c.loop-d.invariant.1 _ c.min-n.result c.put_bytes.new.self c.loop-d-test.true (sym c.is-writable.ensures ∙ c.if-is-writable.true) c.min-n.ensures c.put_bytes.ensures.then in
-    let f = fill_done acts ds x c.args.m.now _ _ _ w c.if-used-response.true in
-    record { value = f.0; then = f.1; size = c.put_bytes.ensures.size ∙ c.loop-d.invariant.0 }
-
--- or all descriptors were seen
 pub returns : goal.returns
+unfolding fill_prog
 returns g c =
-    let f = fill_all g.M.GuestMemory.acts (listed c.args.chain.now) c.args.response.now c.args.m.now c.loop-d.d-index c.loop-d.used c.loop-d.m c.loop-d.invariant.1 c.loop-d-test.false in
-    record { value = f.0; then = f.1; size = c.loop-d.invariant.0 }
+    let e = at_drop_all (λ ds. leaves g.M.GuestMemory.acts (fill_prog ds (drop c.loop-d.used c.args.response.now)) c.loop-d.m) (listed c.args.chain.now) c.loop-d.d-index c.loop-d-test.false in
+    record { then = sym e ∙ c.loop-d.invariant.2; size = c.loop-d.invariant.1 }

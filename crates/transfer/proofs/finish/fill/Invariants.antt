@@ -1,7 +1,9 @@
-use Rattle.std.proofs.Common.{◌≡◌}
-use Rattle.transfer.proofs.Fills.{Fills}
+use Rattle.std.proofs.Common.{◌≡◌, ◌≤◌, length, drop}
+use Rattle.vring.specs.Programs.{leaves}
+use Rattle.transfer.specs.Responses.{fill_prog}
 use Rattle.transfer.proofs.finish.fill.Given as goal
 
 abbrev pub invariant-loop-d : goal.invariant-loop-d
 invariant-loop-d g l =
-    (g.M.GuestMemory.holds l.m ≡ g.M.GuestMemory.holds l.initial.m) × Fills g.M.GuestMemory.acts l.d-items l.response l.initial.m l.d-index l.used l.m
+    (l.used ≤ length l.response) × (g.M.GuestMemory.holds l.m ≡ g.M.GuestMemory.holds l.initial.m)
+    × (leaves g.M.GuestMemory.acts (fill_prog (drop l.d-index l.d-items) (drop l.used l.response)) l.m ≡ leaves g.M.GuestMemory.acts (fill_prog l.d-items l.response) l.initial.m)

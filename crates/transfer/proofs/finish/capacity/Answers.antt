@@ -1,0 +1,18 @@
+use Rattle.std.proofs.Common.{sym, arith}
+use Rattle.transfer.proofs.Fills.{capacity_writes, capacity_reads, capacity_end}
+use Rattle.transfer.proofs.finish.capacity.Goals as goal
+use Rattle.transfer.proofs.finish.capacity.Goals.{then-is-writable, else-is-writable}
+
+pub loop-d-preserved : goal.loop-d-preserved
+loop-d-preserved c =
+    elim c.if-is-writable.branch [
+      | then-is-writable w ↦
+          let e = capacity_writes _ _ _ c.loop-d-test.true (sym w.if-is-writable.ensures) in
+          (omega (arith, e, w.sum-is), omega (arith, w.sum-is))
+      | else-is-writable w ↦
+          let e = capacity_reads _ _ _ c.loop-d-test.true (sym w.if-is-writable.ensures) in
+          (omega (arith, e, w.sum-is), omega (arith, w.sum-is))
+    ]
+
+pub returns : goal.returns
+returns c = omega (arith, capacity_end _ _ c.loop-d-test.false)
