@@ -1,4 +1,6 @@
 // Descriptors and chains of them.
+#![tactic(auto)]
+
 pub mod chain;
 pub mod descriptor;
 pub mod flags;

@@ -1,4 +1,6 @@
 // dovrelzi: serves the virtqueue of a guest memory that a script describes, and prints what happened.
+#![tactic(auto)]
+
 use machine::halt::Halt;
 use machine::machine::Machine;
 use std::io::Read;

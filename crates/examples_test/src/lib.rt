@@ -1,4 +1,6 @@
 // Worked examples of the entries, and attacks on them, as tests.
+#![tactic(auto)]
+
 #[cfg(test)]
 mod answers;
 #[cfg(test)]

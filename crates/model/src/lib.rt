@@ -1,4 +1,6 @@
 // What is promised of the definition of a serving, as contracts: each function's proof is the statement that its contract names.
+#![tactic(auto)]
+
 ghost use Rattle.model.specs.Promises.{Accounts, StaysSound, StaysStopped, DoneWith, Recovers, AsAsked, WaitsMeans};
 ghost use Rattle.model.specs.Histories.{OverAnyHistory};
 ghost use Rattle.model.specs.Meanings.{Found, ServesWhen, CutOff};

@@ -1,3 +1,5 @@
 // What happened, as text.
+#![tactic(auto)]
+
 pub mod lines;
 pub mod store;

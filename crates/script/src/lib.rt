@@ -1,4 +1,6 @@
 // Scripts: a text format by which a memory is tried by hand.
+#![tactic(auto)]
+
 pub mod command;
 pub mod fault;
 mod keyword;

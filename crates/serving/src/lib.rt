@@ -1,4 +1,6 @@
 // Chains served, the device reset, and a descriptor's part handed back.
+#![tactic(auto)]
+
 pub mod done;
 pub mod entries;
 pub mod job;

@@ -1,5 +1,7 @@
 // Holds the entries to a plain reading of the rules, on many random memories.
 // The first argument says how many, and the second the number of the first one.
+#![tactic(auto)]
+
 mod contest;
 mod frame;
 mod guest;

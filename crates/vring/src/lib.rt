@@ -1,4 +1,6 @@
 // Guest memory, the numbers in it, and where a ring stands.
+#![tactic(auto)]
+
 pub mod laws;
 pub mod layout;
 pub mod memory;

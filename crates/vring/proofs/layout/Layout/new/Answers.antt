@@ -7,10 +7,10 @@ pub returns-then-size-eq0 : goal.returns-then-size-eq0
 unfolding placed_ok ring_ok size_ok
 returns-then-size-eq0 c = search rules
 
-pub returns-then-ends-at-n : goal.returns-then-ends-at-n
+pub returns-then-ends_at-n : goal.returns-then-ends_at-n
 unfolding placed_ok ring_ok size_ok
-returns-then-ends-at-n c = search rules
+returns-then-ends_at-n c = search rules
 
-pub returns-else-ends-at-n : goal.returns-else-ends-at-n
+pub returns-else-ends_at-n : goal.returns-else-ends_at-n
 unfolding placed_ok ring_ok size_ok
-returns-else-ends-at-n c = search rules
+returns-else-ends_at-n c = search rules
