@@ -45,10 +45,10 @@ impl Chain {
 
 // The descriptor at an address, each of its numbers read once.
 fn read_descriptor<M: GuestMemory>(m: &mut M, at: usize) -> Descriptor
-    requires { (at ≤ 131072) × (at + 8 ≤ holds m.old) }
-    ensures value { result ≡ ends acts (descriptor_prog at) m.old }
-    ensures then { m.new ≡ leaves acts (descriptor_prog at) m.old }
-    ensures size { holds m.new ≡ holds m.old }
+    requires { (at ≤ 131072) × (at + 8 ≤ M.holds m.old) }
+    ensures value { result ≡ ends M.acts (descriptor_prog at) m.old }
+    ensures then { m.new ≡ leaves M.acts (descriptor_prog at) m.old }
+    ensures size { M.holds m.new ≡ M.holds m.old }
 {
     let addr = m.number(at);
     let len = m.number(at + 2);
@@ -65,10 +65,10 @@ pub fn follow<M: GuestMemory>(
     left: usize,
     out: &mut Chain,
 ) -> bool
-    requires { (table.now.at + 8 * table.now.count ≤ holds m.old) × (out.old.len + left ≤ 64) }
-    ensures value { Follows (ends acts (chain_prog left table.now.at table.now.count i) m.old) result (listed out.old) (listed out.new) }
-    ensures then { m.new ≡ leaves acts (chain_prog left table.now.at table.now.count i) m.old }
-    ensures size { holds m.new ≡ holds m.old }
+    requires { (table.now.at + 8 * table.now.count ≤ M.holds m.old) × (out.old.len + left ≤ 64) }
+    ensures value { Follows (ends M.acts (chain_prog left table.now.at table.now.count i) m.old) result (listed out.old) (listed out.new) }
+    ensures then { m.new ≡ leaves M.acts (chain_prog left table.now.at table.now.count i) m.old }
+    ensures size { M.holds m.new ≡ M.holds m.old }
 {
     if left == 0 || i >= table.count {
         return false;
@@ -85,10 +85,10 @@ fn take_descriptor<M: GuestMemory>(
     left: usize,
     out: &mut Chain,
 ) -> bool
-    requires { (table.now.at + 8 * table.now.count ≤ holds m.old) × ((out.old.len + left ≤ 64) × ((0 < left) × (i < table.now.count))) }
-    ensures value { Follows (ends acts (chain_prog left table.now.at table.now.count i) m.old) result (listed out.old) (listed out.new) }
-    ensures then { m.new ≡ leaves acts (chain_prog left table.now.at table.now.count i) m.old }
-    ensures size { holds m.new ≡ holds m.old }
+    requires { (table.now.at + 8 * table.now.count ≤ M.holds m.old) × ((out.old.len + left ≤ 64) × ((0 < left) × (i < table.now.count))) }
+    ensures value { Follows (ends M.acts (chain_prog left table.now.at table.now.count i) m.old) result (listed out.old) (listed out.new) }
+    ensures then { m.new ≡ leaves M.acts (chain_prog left table.now.at table.now.count i) m.old }
+    ensures size { M.holds m.new ≡ M.holds m.old }
 {
     let at = table.at + 8 * i;
     let d = read_descriptor(m, at);

@@ -31,14 +31,15 @@ pub fn write_command(out: &mut String, command: &Command) -> fmt::Result
     ensures { OnOk result (string_bytes out.new ≡ string_bytes out.old ++ shown (cmd_of command.now)) }
 {
     match command {
-        Command::Memory(n) => write!(out, "memory {n}"),
-        Command::Ring { size, base } => write!(out, "ring {size} at {base}"),
-        Command::Bytes { at, bytes } => write_row(out, *at, bytes.as_slice()),
-        Command::Kept(n) => write!(out, "kept {n}"),
-        Command::Serve(n) => write!(out, "serve {n}"),
-        Command::Anew => write!(out, "anew"),
-        Command::Piece(n) => write!(out, "piece {n}"),
+        Command::Memory(n) => write!(out, "memory {n}")?,
+        Command::Ring { size, base } => write!(out, "ring {size} at {base}")?,
+        Command::Bytes { at, bytes } => write_row(out, *at, bytes.as_slice())?,
+        Command::Kept(n) => write!(out, "kept {n}")?,
+        Command::Serve(n) => write!(out, "serve {n}")?,
+        Command::Anew => write!(out, "anew")?,
+        Command::Piece(n) => write!(out, "piece {n}")?,
     }
+    Ok(())
 }
 
 // A command as its line, without the line's end.

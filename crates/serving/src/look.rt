@@ -18,11 +18,11 @@ use vring::memory::GuestMemory;
 
 // What a serving is to do, of a device that has served so many.
 pub fn look<M: GuestMemory>(layout: &Layout, m: &mut M, served: u16, job: &mut Job) -> Seen
-    requires { ends_at (ring_of layout.now) ≤ holds m.old }
-    ensures value { Sees (ends acts (look_prog (ring_of layout.now) (holds m.old) served) m.old) result job.new }
-    ensures then { m.new ≡ leaves acts (look_prog (ring_of layout.now) (holds m.old) served) m.old }
-    ensures within { result ≡ Ready → Within (holds m.old) (listed job.new.chain) }
-    ensures size { holds m.new ≡ holds m.old }
+    requires { ends_at (ring_of layout.now) ≤ M.holds m.old }
+    ensures value { Sees (ends M.acts (look_prog (ring_of layout.now) (M.holds m.old) served) m.old) result job.new }
+    ensures then { m.new ≡ leaves M.acts (look_prog (ring_of layout.now) (M.holds m.old) served) m.old }
+    ensures within { result ≡ Ready → Within (M.holds m.old) (listed job.new.chain) }
+    ensures size { M.holds m.new ≡ M.holds m.old }
 {
     let waiting = m.number(layout.available_at()).wrapping_sub(served) as usize;
     if waiting == 0 {
@@ -36,11 +36,11 @@ pub fn look<M: GuestMemory>(layout: &Layout, m: &mut M, served: u16, job: &mut J
 
 // The chain that is next, if it may be served.
 fn take_next<M: GuestMemory>(layout: &Layout, m: &mut M, served: u16, job: &mut Job) -> Seen
-    requires { ends_at (ring_of layout.now) ≤ holds m.old }
-    ensures value { Sees (ends acts (next_prog (ring_of layout.now) (holds m.old) served) m.old) result job.new }
-    ensures then { m.new ≡ leaves acts (next_prog (ring_of layout.now) (holds m.old) served) m.old }
-    ensures within { result ≡ Ready → Within (holds m.old) (listed job.new.chain) }
-    ensures size { holds m.new ≡ holds m.old }
+    requires { ends_at (ring_of layout.now) ≤ M.holds m.old }
+    ensures value { Sees (ends M.acts (next_prog (ring_of layout.now) (M.holds m.old) served) m.old) result job.new }
+    ensures then { m.new ≡ leaves M.acts (next_prog (ring_of layout.now) (M.holds m.old) served) m.old }
+    ensures within { result ≡ Ready → Within (M.holds m.old) (listed job.new.chain) }
+    ensures size { M.holds m.new ≡ M.holds m.old }
 {
     let mut view = View::next(layout, m, served);
     job.head = view.head;

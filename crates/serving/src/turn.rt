@@ -26,10 +26,10 @@ fn complete<M: GuestMemory>(
     kept: &mut [u8],
     job: &Job,
 )
-    requires { (ends_at (ring_of layout.now) ≤ holds m.old) × ((Within (holds m.old) (listed job.now.chain)) × (progress.old.stopped ≡ false)) }
+    requires { (ends_at (ring_of layout.now) ≤ M.holds m.old) × ((Within (M.holds m.old) (listed job.now.chain)) × (progress.old.stopped ≡ false)) }
     ensures device { device_of progress.new kept.new ≡ device_after (device_of progress.old kept.old) (held job.now.request) }
-    ensures then { m.new ≡ leaves acts (finish_prog (ring_of layout.now) progress.old.served job.now.head (listed job.now.chain) (cut kept.old (listed job.now.chain) (held job.now.request))) m.old }
-    ensures size { holds m.new ≡ holds m.old }
+    ensures then { m.new ≡ leaves M.acts (finish_prog (ring_of layout.now) progress.old.served job.now.head (listed job.now.chain) (cut kept.old (listed job.now.chain) (held job.now.request))) m.old }
+    ensures size { M.holds m.new ≡ M.holds m.old }
 {
     let response = respond(kept, &job.request);
     let n = response.len.min(capacity(&job.chain));
@@ -52,10 +52,10 @@ pub fn turn<M: GuestMemory>(
     kept: &mut [u8],
     job: &mut Job,
 ) -> bool
-    requires { ends_at (ring_of layout.now) ≤ holds m.old }
-    ensures value { ends acts (turn_prog (ring_of layout.now) (holds m.old) (device_of progress.old kept.old)) m.old ≡ turned result (device_of progress.new kept.new) }
-    ensures then { m.new ≡ leaves acts (turn_prog (ring_of layout.now) (holds m.old) (device_of progress.old kept.old)) m.old }
-    ensures size { holds m.new ≡ holds m.old }
+    requires { ends_at (ring_of layout.now) ≤ M.holds m.old }
+    ensures value { ends M.acts (turn_prog (ring_of layout.now) (M.holds m.old) (device_of progress.old kept.old)) m.old ≡ turned result (device_of progress.new kept.new) }
+    ensures then { m.new ≡ leaves M.acts (turn_prog (ring_of layout.now) (M.holds m.old) (device_of progress.old kept.old)) m.old }
+    ensures size { M.holds m.new ≡ M.holds m.old }
 {
     if progress.stopped {
         return false;
@@ -82,10 +82,10 @@ pub fn run<M: GuestMemory>(
     job: &mut Job,
     times: u64,
 )
-    requires { ends_at (ring_of layout.now) ≤ holds m.old }
-    ensures value { ends acts (run_prog times (ring_of layout.now) (holds m.old) (device_of progress.old kept.old)) m.old ≡ device_of progress.new kept.new }
-    ensures then { m.new ≡ leaves acts (run_prog times (ring_of layout.now) (holds m.old) (device_of progress.old kept.old)) m.old }
-    ensures size { holds m.new ≡ holds m.old }
+    requires { ends_at (ring_of layout.now) ≤ M.holds m.old }
+    ensures value { ends M.acts (run_prog times (ring_of layout.now) (M.holds m.old) (device_of progress.old kept.old)) m.old ≡ device_of progress.new kept.new }
+    ensures then { m.new ≡ leaves M.acts (run_prog times (ring_of layout.now) (M.holds m.old) (device_of progress.old kept.old)) m.old }
+    ensures size { M.holds m.new ≡ M.holds m.old }
 {
     let mut left = times;
     while left > 0 && turn(layout, m, progress, kept, job) {

@@ -28,10 +28,10 @@ pub struct View<'l, 'm, M> {
 impl<'l, 'm, M: GuestMemory> Queue<'l, 'm, M> {
     // The chain from `head` on, listed in `out`, which lists nothing yet; false where it is bad.
     fn follow(&mut self, head: u16, out: &mut Chain) -> bool
-        requires { (ends_at (ring_of self.old.layout.now) ≤ holds self.old.memory.now) × (out.old.len ≡ 0) }
-        ensures value { Follows (ends acts (chain_prog self.old.layout.now.size self.old.layout.now.base self.old.layout.now.size head) self.old.memory.now) result (listed out.old) (listed out.new) }
-        ensures then { self.new.memory.now ≡ leaves acts (chain_prog self.old.layout.now.size self.old.layout.now.base self.old.layout.now.size head) self.old.memory.now }
-        ensures size { holds self.new.memory.now ≡ holds self.old.memory.now }
+        requires { (ends_at (ring_of self.old.layout.now) ≤ M.holds self.old.memory.now) × (out.old.len ≡ 0) }
+        ensures value { Follows (ends M.acts (chain_prog self.old.layout.now.size self.old.layout.now.base self.old.layout.now.size head) self.old.memory.now) result (listed out.old) (listed out.new) }
+        ensures then { self.new.memory.now ≡ leaves M.acts (chain_prog self.old.layout.now.size self.old.layout.now.base self.old.layout.now.size head) self.old.memory.now }
+        ensures size { M.holds self.new.memory.now ≡ M.holds self.old.memory.now }
         ensures same { self.new.memory.ghost_name ≡ self.old.memory.ghost_name }
     {
         let table = table_of(self.layout);
@@ -43,10 +43,10 @@ impl<'l, 'm, M: GuestMemory> Queue<'l, 'm, M> {
 impl<'l, 'm, M: GuestMemory> View<'l, 'm, M> {
     // The chain that a device which has served so many is to serve next.
     pub fn next(layout: &'l Layout, memory: &'m mut M, served: u16) -> View<'l, 'm, M>
-        requires { ends_at (ring_of layout.now) ≤ holds memory.old }
-        ensures head { result.head ≡ acts.reads memory.old pair (head_at (ring_of layout.now) served) }
-        ensures then { result.queue.memory.now ≡ acts.after memory.old pair (head_at (ring_of layout.now) served) }
-        ensures size { holds result.queue.memory.now ≡ holds memory.old }
+        requires { ends_at (ring_of layout.now) ≤ M.holds memory.old }
+        ensures head { result.head ≡ M.acts.reads memory.old pair (head_at (ring_of layout.now) served) }
+        ensures then { result.queue.memory.now ≡ M.acts.after memory.old pair (head_at (ring_of layout.now) served) }
+        ensures size { M.holds result.queue.memory.now ≡ M.holds memory.old }
         ensures ring { result.queue.layout.now ≡ layout.now }
         ensures same { result.queue.memory.ghost_name ≡ memory.entry.ghost_name }
     {
@@ -59,10 +59,10 @@ impl<'l, 'm, M: GuestMemory> View<'l, 'm, M> {
 
     // The chain, listed in `out`, which lists nothing yet; false where it is bad.
     pub fn follow(&mut self, out: &mut Chain) -> bool
-        requires { (ends_at (ring_of self.old.queue.layout.now) ≤ holds self.old.queue.memory.now) × (out.old.len ≡ 0) }
-        ensures value { Follows (ends acts (chain_prog self.old.queue.layout.now.size self.old.queue.layout.now.base self.old.queue.layout.now.size self.old.head) self.old.queue.memory.now) result (listed out.old) (listed out.new) }
-        ensures then { self.new.queue.memory.now ≡ leaves acts (chain_prog self.old.queue.layout.now.size self.old.queue.layout.now.base self.old.queue.layout.now.size self.old.head) self.old.queue.memory.now }
-        ensures size { holds self.new.queue.memory.now ≡ holds self.old.queue.memory.now }
+        requires { (ends_at (ring_of self.old.queue.layout.now) ≤ M.holds self.old.queue.memory.now) × (out.old.len ≡ 0) }
+        ensures value { Follows (ends M.acts (chain_prog self.old.queue.layout.now.size self.old.queue.layout.now.base self.old.queue.layout.now.size self.old.head) self.old.queue.memory.now) result (listed out.old) (listed out.new) }
+        ensures then { self.new.queue.memory.now ≡ leaves M.acts (chain_prog self.old.queue.layout.now.size self.old.queue.layout.now.base self.old.queue.layout.now.size self.old.head) self.old.queue.memory.now }
+        ensures size { M.holds self.new.queue.memory.now ≡ M.holds self.old.queue.memory.now }
         ensures same { self.new.queue.memory.ghost_name ≡ self.old.queue.memory.ghost_name }
     {
         let head = self.head;

@@ -26,9 +26,9 @@ pub fn capacity(chain: &Chain) -> usize
 
 // The response into the writable descriptors, in order; what finds no place is cut off.
 fn fill<M: GuestMemory>(m: &mut M, chain: &Chain, response: &[u8])
-    requires { Within (holds m.old) (listed chain.now) }
-    ensures then { m.new ≡ leaves acts (fill_prog (listed chain.now) response.now) m.old }
-    ensures size { holds m.new ≡ holds m.old }
+    requires { Within (M.holds m.old) (listed chain.now) }
+    ensures then { m.new ≡ leaves M.acts (fill_prog (listed chain.now) response.now) m.old }
+    ensures size { M.holds m.new ≡ M.holds m.old }
 {
     let mut used = 0;
     for d in &chain.at[..chain.len] {
@@ -43,9 +43,9 @@ fn fill<M: GuestMemory>(m: &mut M, chain: &Chain, response: &[u8])
 
 // The `k`-th used entry, and then the used count.
 fn put_used<M: GuestMemory>(layout: &Layout, m: &mut M, k: u16, head: u16, len: u16)
-    requires { ends_at (ring_of layout.now) ≤ holds m.old }
-    ensures then { m.new ≡ leaves acts (used_prog (ring_of layout.now) k head len) m.old }
-    ensures size { holds m.new ≡ holds m.old }
+    requires { ends_at (ring_of layout.now) ≤ M.holds m.old }
+    ensures then { m.new ≡ leaves M.acts (used_prog (ring_of layout.now) k head len) m.old }
+    ensures size { M.holds m.new ≡ M.holds m.old }
 {
     let at = layout.entry_at(k);
     m.put_number(at, head);
@@ -62,9 +62,9 @@ pub fn finish<M: GuestMemory>(
     chain: &Chain,
     response: &[u8],
 )
-    requires { (ends_at (ring_of layout.now) ≤ holds m.old) × ((Within (holds m.old) (listed chain.now)) × (length response.now < 65536)) }
-    ensures then { m.new ≡ leaves acts (finish_prog (ring_of layout.now) k head (listed chain.now) response.now) m.old }
-    ensures size { holds m.new ≡ holds m.old }
+    requires { (ends_at (ring_of layout.now) ≤ M.holds m.old) × ((Within (M.holds m.old) (listed chain.now)) × (length response.now < 65536)) }
+    ensures then { m.new ≡ leaves M.acts (finish_prog (ring_of layout.now) k head (listed chain.now) response.now) m.old }
+    ensures size { M.holds m.new ≡ M.holds m.old }
 {
     fill(m, chain, response);
     put_used(layout, m, k, head, response.len() as u16);

@@ -43,11 +43,11 @@ impl Request {
 
 // The `n` bytes from an address on, behind what `out` has.
 fn take_bytes<M: GuestMemory>(m: &mut M, at: usize, n: usize, out: &mut Request)
-    requires { (at + n ≤ holds m.old) × ((at + n ≤ 131072) × (out.old.len + n ≤ 19)) }
-    ensures value { held out.new ≡ held out.old ++ ends acts (get_bytes n at) m.old }
+    requires { (at + n ≤ M.holds m.old) × ((at + n ≤ 131072) × (out.old.len + n ≤ 19)) }
+    ensures value { held out.new ≡ held out.old ++ ends M.acts (get_bytes n at) m.old }
     ensures long { out.new.len ≡ out.old.len + n }
-    ensures then { m.new ≡ leaves acts (get_bytes n at) m.old }
-    ensures size { holds m.new ≡ holds m.old }
+    ensures then { m.new ≡ leaves M.acts (get_bytes n at) m.old }
+    ensures size { M.holds m.new ≡ M.holds m.old }
 {
     if n == 0 {
         return;
@@ -59,10 +59,10 @@ fn take_bytes<M: GuestMemory>(m: &mut M, at: usize, n: usize, out: &mut Request)
 
 // The first bytes of what a chain asks, into `out`.
 pub fn gather<M: GuestMemory>(m: &mut M, chain: &Chain, out: &mut Request)
-    requires { Within (holds m.old) (listed chain.now) }
-    ensures value { held out.new ≡ ends acts (request_prog 19 (listed chain.now)) m.old }
-    ensures then { m.new ≡ leaves acts (request_prog 19 (listed chain.now)) m.old }
-    ensures size { holds m.new ≡ holds m.old }
+    requires { Within (M.holds m.old) (listed chain.now) }
+    ensures value { held out.new ≡ ends M.acts (request_prog 19 (listed chain.now)) m.old }
+    ensures then { m.new ≡ leaves M.acts (request_prog 19 (listed chain.now)) m.old }
+    ensures size { M.holds m.new ≡ M.holds m.old }
 {
     out.clear();
     for d in &chain.at[..chain.len] {

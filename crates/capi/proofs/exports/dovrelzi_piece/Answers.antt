@@ -6,16 +6,16 @@ use Rattle.serving.proofs.Parts.{There}
 use Rattle.capi.proofs.Parts.{Answers, answers_none, answers_there}
 use Rattle.capi.proofs.exports.dovrelzi_piece.Goals as goal
 
-pub returns-in-default : goal.returns-in-default
-returns-in-default c =
+pub returns-in_default : goal.returns-in_default
+returns-in_default c =
     let r : Ring = record { size = c.args.places; base = c.args.begins } in
-    let a = answers_none r c.args.memory.now c.args.at c.no-part.result c.no-part.ensures (λ t. both_ways _ c.in-default.ensures.placed t.placed) in
+    let a = answers_none r c.args.memory.now c.args.at c.no_part.result c.no_part.ensures (λ t. both_ways _ c.in_default.ensures.placed t.placed) in
     record { numbers = a.numbers; bytes = a.bytes }
 
 pub returns-then-at-places : goal.returns-then-at-places
 returns-then-at-places c =
     let r : Ring = record { size = c.args.places; base = c.args.begins } in
-    let a = answers_none r c.args.memory.now c.args.at c.no-part-then-at-places.result c.no-part-then-at-places.ensures (λ t. let l = t.below in omega arith) in
+    let a = answers_none r c.args.memory.now c.args.at c.no_part-then-at-places.result c.no_part-then-at-places.ensures (λ t. let l = t.below in omega arith) in
     record { numbers = a.numbers; bytes = a.bytes }
 
 -- the two numbers of the descriptor, in the ring's words
@@ -23,17 +23,17 @@ pub returns-then-addr-len : goal.returns-then-addr-len
 returns-then-addr-len c =
     let r : Ring = record { size = c.args.places; base = c.args.begins } in let m = c.args.memory.now in
     let b : c.in-Some.layout.base ≡ c.args.begins = ap (λ (x : Ring). x.base) c.in-Some.ensures.placed.1 in
-    let a : c.word-at-addr.result ≡ word m (r.base + 8 * c.args.at) = c.word-at-addr.ensures ∙ ap (λ x. word m (x + 8 * c.args.at)) b in
-    let l : c.word-at-len.result ≡ word m (r.base + 8 * c.args.at + 2) = c.word-at-len.ensures ∙ ap (λ x. word m (x + 8 * c.args.at + 2)) b in
-    let n = answers_none r m c.args.at c.no-part-then-addr-len.result c.no-part-then-addr-len.ensures (λ t. let i = t.inside in omega arith) in
+    let a : c.word_at-addr.result ≡ word m (r.base + 8 * c.args.at) = c.word_at-addr.ensures ∙ ap (λ x. word m (x + 8 * c.args.at)) b in
+    let l : c.word_at-len.result ≡ word m (r.base + 8 * c.args.at + 2) = c.word_at-len.ensures ∙ ap (λ x. word m (x + 8 * c.args.at + 2)) b in
+    let n = answers_none r m c.args.at c.no_part-then-addr-len.result c.no_part-then-addr-len.ensures (λ t. let i = t.inside in omega arith) in
     record { numbers = n.numbers; bytes = n.bytes }
 
 pub returns : goal.returns
 returns c =
     let r : Ring = record { size = c.args.places; base = c.args.begins } in let m = c.args.memory.now in
     let b : c.in-Some.layout.base ≡ c.args.begins = ap (λ (x : Ring). x.base) c.in-Some.ensures.placed.1 in
-    let a : c.word-at-addr.result ≡ word m (r.base + 8 * c.args.at) = c.word-at-addr.ensures ∙ ap (λ x. word m (x + 8 * c.args.at)) b in
-    let l : c.word-at-len.result ≡ word m (r.base + 8 * c.args.at + 2) = c.word-at-len.ensures ∙ ap (λ x. word m (x + 8 * c.args.at + 2)) b in
+    let a : c.word_at-addr.result ≡ word m (r.base + 8 * c.args.at) = c.word_at-addr.ensures ∙ ap (λ x. word m (x + 8 * c.args.at)) b in
+    let l : c.word_at-len.result ≡ word m (r.base + 8 * c.args.at + 2) = c.word_at-len.ensures ∙ ap (λ x. word m (x + 8 * c.args.at + 2)) b in
     let t : There r m c.args.at = record { placed = c.in-Some.ensures.placed.0; below = c.if-at-places.false; inside = omega arith } in
     let n = answers_there r m c.args.at _ _ a l t in
     record { numbers = n.numbers; bytes = n.bytes }

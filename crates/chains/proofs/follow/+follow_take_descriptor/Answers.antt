@@ -14,12 +14,12 @@ follow-returns-then-left-eq0 g t c =
           record { value = b.0; then = b.1; size = refl }
     ]
 
-pub take-descriptor-returns-then-not-has-next : goal.take-descriptor-returns-then-not-has-next
-take-descriptor-returns-then-not-has-next g t c =
-    let b = ends_here g.M.GuestMemory.acts c.args.left c.args.table.now.at c.args.table.now.count c.args.m.now _ c.args.i _ _ _ (omega arith) (omega arith) c.read-descriptor-d.ensures.value c.read-descriptor-d.ensures.then c.push.ensures.items (sym c.has_next.ensures ∙ c.if-not-has-next.true) in
+pub take_descriptor-returns-then-not-has_next : goal.take_descriptor-returns-then-not-has_next
+take_descriptor-returns-then-not-has_next g t c =
+    let b = ends_here g.M.GuestMemory.acts c.args.left c.args.table.now.at c.args.table.now.count c.args.m.now _ c.args.i _ _ _ (omega arith) (omega arith) c.read_descriptor-d.ensures.value c.read_descriptor-d.ensures.then c.push.ensures.items (sym c.has_next.ensures ∙ c.if-not-has_next.true) in
     record { value = b.0; then = b.1; size = cc }
 
-pub take-descriptor-returns : goal.take-descriptor-returns
-take-descriptor-returns g t c =
-    let b = goes_on g.M.GuestMemory.acts c.args.left c.args.table.now.at c.args.table.now.count c.args.m.now _ c.args.i _ _ _ (omega arith) (omega arith) c.read-descriptor-d.ensures.value c.read-descriptor-d.ensures.then c.push.ensures.items _ _ _ _ _ (sym c.has_next.ensures ∙ c.if-not-has-next.false) c.number-next.ensures.value c.number-next.ensures.then c.follow.ensures.value c.follow.ensures.then in
+pub take_descriptor-returns : goal.take_descriptor-returns
+take_descriptor-returns g t c =
+    let b = goes_on g.M.GuestMemory.acts c.args.left c.args.table.now.at c.args.table.now.count c.args.m.now _ c.args.i _ _ _ (omega arith) (omega arith) c.read_descriptor-d.ensures.value c.read_descriptor-d.ensures.then c.push.ensures.items _ _ _ _ _ (sym c.has_next.ensures ∙ c.if-not-has_next.false) c.number-next.ensures.value c.number-next.ensures.then c.follow.ensures.value c.follow.ensures.then in
     record { value = b.0; then = b.1; size = cc }

@@ -5,5 +5,5 @@ use Rattle.chains.proofs.follow.+follow_take_descriptor.Given as goal
 abbrev pub decreases-follow : goal.decreases-follow
 decreases-follow g l = 2 * l.left + 1
 
-abbrev pub decreases-take-descriptor : goal.decreases-take-descriptor
-decreases-take-descriptor g l = 2 * l.left
+abbrev pub decreases-take_descriptor : goal.decreases-take_descriptor
+decreases-take_descriptor g l = 2 * l.left

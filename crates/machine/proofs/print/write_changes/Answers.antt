@@ -4,7 +4,7 @@ use Rattle.report.specs.Stores.{name_of}
 use Rattle.machine.specs.Steps.{changes}
 use Rattle.machine.proofs.Prints.{changes_same, changes_other, changes_end}
 use Rattle.machine.proofs.print.write_changes.Goals as goal
-use Rattle.machine.proofs.print.write_changes.Goals.{then-before-i+in-ok-changed, else-before-i}
+use Rattle.machine.proofs.print.write_changes.Goals.{then-before-i+in_ok-changed, else-before-i}
 
 pub loop-i-preserved : goal.loop-i-preserved
 loop-i-preserved c =
@@ -12,8 +12,8 @@ loop-i-preserved c =
     let k : i < length ys = omega arith in
     let rest = changes name (i + 1) (drop (i + 1) xs) (drop (i + 1) ys) in let out = string_bytes c.loop-i.out in
     elim c.if-before-i.branch [
-      | then-before-i+in-ok-changed w ↦
-          rw w.out-is (ap (λ x. x ++ rest) w.in-ok-changed.ensures
+      | then-before-i+in_ok-changed w ↦
+          rw w.out-is (ap (λ x. x ++ rest) w.in_ok-changed.ensures
           ∙ (append_assoc out (change name i (get_or xs i 0) (get_or ys i 0)) rest ∙ (ap (λ x. out ++ x) (sym (changes_other name xs ys i c.loop-i-test.true k w.if-before-i.true)) ∙ c.loop-i.invariant)))
       | else-before-i w ↦ rw w.out-is (ap (λ x. out ++ x) (sym (changes_same name xs ys i c.loop-i-test.true k w.if-before-i.false)) ∙ c.loop-i.invariant)
     ]

@@ -8,44 +8,44 @@ use Rattle.serving.specs.Entries.{state_in}
 use Rattle.serving.proofs.Entering.{refusal_ring, refusal_state, refusal_kept, refusal_times, refusal_none, refused, not_taken, taken, sound_in, two_numbers, promised, serves_in}
 use Rattle.serving.proofs.entries.serve.Goals as goal
 
-pub returns-in-default : goal.returns-in-default
-returns-in-default c =
+pub returns-in_default : goal.returns-in_default
+returns-in_default c =
     let r : Ring = record { size = c.args.places; base = c.args.begins } in
-    let e = refusal_ring r c.args.memory.now c.args.state.now c.args.kept.now c.args.times c.in-default.ensures.placed in
+    let e = refusal_ring r c.args.memory.now c.args.state.now c.args.kept.now c.args.times c.in_default.ensures.placed in
     record { does = refused r _ _ _ _ 0 e; promises = λ z. absurd (not_taken r _ _ _ _ 0 e z) }
 
-pub returns-in-default-read-state : goal.returns-in-default-read-state
-returns-in-default-read-state c =
+pub returns-in_default-read_state : goal.returns-in_default-read_state
+returns-in_default-read_state c =
     let r : Ring = record { size = c.args.places; base = c.args.begins } in
-    let e = refusal_state r c.args.memory.now c.args.state.now c.args.kept.now c.args.times c.in-Some.ensures.placed.0 c.in-default-read-state.ensures in
+    let e = refusal_state r c.args.memory.now c.args.state.now c.args.kept.now c.args.times c.in-Some.ensures.placed.0 c.in_default-read_state.ensures in
     record { does = refused r _ _ _ _ 1 e; promises = λ z. absurd (not_taken r _ _ _ _ 1 e z) }
 
 pub returns-then-kept-gt4096 : goal.returns-then-kept-gt4096
 returns-then-kept-gt4096 c =
     let r : Ring = record { size = c.args.places; base = c.args.begins } in
-    let e = refusal_kept r c.args.memory.now c.args.state.now c.args.kept.now c.args.times c.in-Some.ensures.placed.0 c.in-Some-read-state.ensures.0 (lt-leb _ _ c.if-kept-gt4096.true) in
+    let e = refusal_kept r c.args.memory.now c.args.state.now c.args.kept.now c.args.times c.in-Some.ensures.placed.0 c.in-Some-read_state.ensures.0 (lt-leb _ _ c.if-kept-gt4096.true) in
     record { does = refused r _ _ _ _ 2 e; promises = λ z. absurd (not_taken r _ _ _ _ 2 e z) }
 
 pub returns-then-times-gt1000 : goal.returns-then-times-gt1000
 returns-then-times-gt1000 c =
     let r : Ring = record { size = c.args.places; base = c.args.begins } in
-    let e = refusal_times r c.args.memory.now c.args.state.now c.args.kept.now c.args.times c.in-Some.ensures.placed.0 c.in-Some-read-state.ensures.0 (le-leb _ _ c.if-kept-gt4096.false) (lt-leb _ _ c.if-times-gt1000.true) in
+    let e = refusal_times r c.args.memory.now c.args.state.now c.args.kept.now c.args.times c.in-Some.ensures.placed.0 c.in-Some-read_state.ensures.0 (le-leb _ _ c.if-kept-gt4096.false) (lt-leb _ _ c.if-times-gt1000.true) in
     record { does = refused r _ _ _ _ 3 e; promises = λ z. absurd (not_taken r _ _ _ _ 3 e z) }
 
-pub serve-plain-done-requires : goal.serve-plain-done-requires
-serve-plain-done-requires c =
+pub serve_plain-done-requires : goal.serve_plain-done-requires
+serve_plain-done-requires c =
     let r : Ring = record { size = c.args.places; base = c.args.begins } in
-    let h = sound_in r c.args.memory.now c.args.state.now c.args.kept.now c.args.times c.in-Some.ensures.placed.0 c.in-Some-read-state.ensures.0 c.if-kept-gt4096.false in
-    let f = ap {B = State} (λ d. record { memory = c.args.memory.now; device = d }) (c.in-Some-read-state.ensures.1 c.args.kept.now) in
-    let b₀ : State = record { memory = c.args.memory.now; device = device_of c.in-Some-read-state.progress c.args.kept.now } in
+    let h = sound_in r c.args.memory.now c.args.state.now c.args.kept.now c.args.times c.in-Some.ensures.placed.0 c.in-Some-read_state.ensures.0 c.if-kept-gt4096.false in
+    let f = ap {B = State} (λ d. record { memory = c.args.memory.now; device = d }) (c.in-Some-read_state.ensures.1 c.args.kept.now) in
+    let b₀ : State = record { memory = c.args.memory.now; device = device_of c.in-Some-read_state.progress c.args.kept.now } in
     subst (λ x. Sound x b₀) (sym c.in-Some.ensures.placed.1) (subst (λ x. Sound r x) (sym f) h)
 
 pub returns : goal.returns
 returns c =
     let r : Ring = record { size = c.args.places; base = c.args.begins } in
     let b : State = state_in c.args.memory.now c.args.state.now c.args.kept.now in
-    let e = refusal_none r c.args.memory.now c.args.state.now c.args.kept.now c.args.times c.in-Some.ensures.placed.0 c.in-Some-read-state.ensures.0 (le-leb _ _ c.if-kept-gt4096.false) (le-leb _ _ c.if-times-gt1000.false) in
-    let h = sound_in r c.args.memory.now c.args.state.now c.args.kept.now c.args.times c.in-Some.ensures.placed.0 c.in-Some-read-state.ensures.0 c.if-kept-gt4096.false in
-    let f = ap {B = State} (λ d. record { memory = c.args.memory.now; device = d }) (c.in-Some-read-state.ensures.1 c.args.kept.now) in
-    let v = serves_in r _ b _ c.args.times _ _ c.write-state.new.state _ _ c.in-Some.ensures.placed.1 f (c.write-state.ensures c.serve-plain-done.new.kept) c.serve-plain-done.ensures in
+    let e = refusal_none r c.args.memory.now c.args.state.now c.args.kept.now c.args.times c.in-Some.ensures.placed.0 c.in-Some-read_state.ensures.0 (le-leb _ _ c.if-kept-gt4096.false) (le-leb _ _ c.if-times-gt1000.false) in
+    let h = sound_in r c.args.memory.now c.args.state.now c.args.kept.now c.args.times c.in-Some.ensures.placed.0 c.in-Some-read_state.ensures.0 c.if-kept-gt4096.false in
+    let f = ap {B = State} (λ d. record { memory = c.args.memory.now; device = d }) (c.in-Some-read_state.ensures.1 c.args.kept.now) in
+    let v = serves_in r _ b _ c.args.times _ _ c.write_state.new.state _ _ c.in-Some.ensures.placed.1 f (c.write_state.ensures c.serve_plain-done.new.kept) c.serve_plain-done.ensures in
     record { does = taken r _ _ _ _ _ _ _ _ e v; promises = λ _. promised r b c.args.times _ _ _ _ h v }

@@ -33,7 +33,7 @@ returns g c =
     let e₁ : m₁ ≡ acts.after m pair (available_at r) = cc in
     let b = look_next acts r (g.M.GuestMemory.holds m) c.args.served c.number.result m m₁ e e₁ (λ z. omega arith) (omega arith) in
     let k = c.number.ensures.size in
-    let v = subst (λ n. Sees (ends acts (next_prog r n c.args.served) m₁) c.take-next.result c.take-next.new.job) k c.take-next.ensures.value in
-    let t = c.take-next.ensures.then ∙ ap (λ n. leaves acts (next_prog r n c.args.served) m₁) k in
-    let w = subst (λ n. c.take-next.result ≡ Ready → Within n (listed c.take-next.new.job.chain)) k c.take-next.ensures.within in
-    record { value = subst (λ l. Sees l c.take-next.result c.take-next.new.job) (sym b.0) v; then = t ∙ sym b.1; within = w; size = cc }
+    let v = subst (λ n. Sees (ends acts (next_prog r n c.args.served) m₁) c.take_next.result c.take_next.new.job) k c.take_next.ensures.value in
+    let t = c.take_next.ensures.then ∙ ap (λ n. leaves acts (next_prog r n c.args.served) m₁) k in
+    let w = subst (λ n. c.take_next.result ≡ Ready → Within n (listed c.take_next.new.job.chain)) k c.take_next.ensures.within in
+    record { value = subst (λ l. Sees l c.take_next.result c.take_next.new.job) (sym b.0) v; then = t ∙ sym b.1; within = w; size = cc }

@@ -9,8 +9,8 @@ use Rattle.transfer.proofs.finish.fill.Goals as goal
 pub loop-d-preserved : goal.loop-d-preserved
 loop-d-preserved g c =
     let ds = listed c.args.chain.now in let x = c.args.response.now in let u = c.loop-d.used in let m = c.loop-d.m in
-    elim c.if-is-writable.branch [
-      | goal.then-is-writable w ↦
+    elim c.if-is_writable.branch [
+      | goal.then-is_writable w ↦
           let acts = g.M.GuestMemory.acts in
           let d = get_or ds c.loop-d.d-index (record { addr = 0; len = 0; flags = 0 }) in let n = w.min-n.result in
           let parts = cut d.len u x in
@@ -18,15 +18,15 @@ loop-d-preserved g c =
           let e : (u + n) - u ≡ min d.len (length x - u) = omega arith in
           let m₁ = w.put_bytes.ensures.then ∙ ap (λ ys. leaves acts (put_bytes d.addr ys) m) (ap (λ j. take j (drop u x)) e ∙ parts.0) in
           let rest = ap (λ j. drop (u + j) x) k ∙ parts.1 in
-          let b : c.if-is-writable.used ≤ length x = omega arith in (
+          let b : c.if-is_writable.used ≤ length x = omega arith in (
             b,
             rw w.m-is (w.put_bytes.ensures.size ∙ c.loop-d.invariant.1),
-            rw (w.used-is, w.m-is, rest) (fill_write acts ds c.loop-d.d-index _ (drop u x) m c.loop-d-test.true _ (sym c.is-writable.ensures ∙ w.if-is-writable.true) m₁ ∙ c.loop-d.invariant.2),
+            rw (w.used-is, w.m-is, rest) (fill_write acts ds c.loop-d.d-index _ (drop u x) m c.loop-d-test.true _ (sym c.is_writable.ensures ∙ w.if-is_writable.true) m₁ ∙ c.loop-d.invariant.2),
           )
-      | goal.else-is-writable w ↦ (
+      | goal.else-is_writable w ↦ (
         rw w.used-is c.loop-d.invariant.0,
         rw w.m-is c.loop-d.invariant.1,
-        rw (w.used-is, w.m-is) (fill_skip g.M.GuestMemory.acts ds c.loop-d.d-index _ (drop u x) m c.loop-d-test.true (sym c.is-writable.ensures ∙ w.if-is-writable.false) ∙ c.loop-d.invariant.2),
+        rw (w.used-is, w.m-is) (fill_skip g.M.GuestMemory.acts ds c.loop-d.d-index _ (drop u x) m c.loop-d-test.true (sym c.is_writable.ensures ∙ w.if-is_writable.false) ∙ c.loop-d.invariant.2),
       )
     ]
 

@@ -13,8 +13,8 @@ returns g t c =
     let b = byte_more g.M.GuestMemory.acts c.args.n c.args.at c.byte-b.result c.args.m.now c.byte-b.new.self (omega arith) c.byte-b.ensures.value c.byte-b.ensures.then in
     let xs = held c.args.out.now in let ys = ends g.M.GuestMemory.acts (get_bytes (c.args.n - 1) (c.args.at + 1)) c.byte-b.new.self in
     record {
-      value = c.take-bytes.ensures.value ∙ (ap (λ l. l ++ ys) c.push.ensures.items ∙ (append_assoc xs (c.byte-b.result ∷ []) ys ∙ ap (λ l. xs ++ l) (sym b.0)));
+      value = c.take_bytes.ensures.value ∙ (ap (λ l. l ++ ys) c.push.ensures.items ∙ (append_assoc xs (c.byte-b.result ∷ []) ys ∙ ap (λ l. xs ++ l) (sym b.0)));
       long = omega arith;
-      then = c.take-bytes.ensures.then ∙ sym b.1;
+      then = c.take_bytes.ensures.then ∙ sym b.1;
       size = cc;
     }

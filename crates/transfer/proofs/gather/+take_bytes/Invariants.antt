@@ -1,4 +1,4 @@
 use Rattle.transfer.proofs.gather.+take_bytes.Given as goal
 
-abbrev pub decreases-take-bytes : goal.decreases-take-bytes
-decreases-take-bytes g l = l.n
+abbrev pub decreases-take_bytes : goal.decreases-take_bytes
+decreases-take_bytes g l = l.n

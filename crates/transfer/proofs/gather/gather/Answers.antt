@@ -13,19 +13,19 @@ loop-d-init g c = rw (c.clear.ensures.items, c.clear.ensures.len) (refl, refl, r
 pub loop-d-preserved : goal.loop-d-preserved
 loop-d-preserved g c =
     let acts = g.M.GuestMemory.acts in let ds = listed c.args.chain.now in let m = c.loop-d.m in let q = c.loop-d.out in let i = c.loop-d.d-index in
-    elim c.if-not-is-writable.branch [
-      | goal.then-not-is-writable w ↦
+    elim c.if-not-is_writable.branch [
+      | goal.then-not-is_writable w ↦
           let d = get_or ds i (record { addr = 0; len = 0; flags = 0 }) in let k = w.min-n.result in
-          let b = gather_read acts ds i _ (19 - q.len) m c.loop-d-test.true w.take-bytes.new.m k (sym c.is-writable.ensures ∙ w.if-not-is-writable.true) w.min-n.ensures w.take-bytes.ensures.then in
-          let e : 19 - w.take-bytes.new.out.len ≡ 19 - q.len - k = omega arith in
+          let b = gather_read acts ds i _ (19 - q.len) m c.loop-d-test.true w.take_bytes.new.m k (sym c.is_writable.ensures ∙ w.if-not-is_writable.true) w.min-n.ensures w.take_bytes.ensures.then in
+          let e : 19 - w.take_bytes.new.out.len ≡ 19 - q.len - k = omega arith in
           let p = request_prog (19 - q.len - k) (drop (i + 1) ds) in
           rw (w.out-is, w.m-is) (rw e (
-            w.take-bytes.ensures.size ∙ c.loop-d.invariant.0,
-            ap (λ l. l ++ ends acts p w.take-bytes.new.m) w.take-bytes.ensures.value ∙ (append_assoc (held q) (ends acts (get_bytes k d.addr) m) (ends acts p w.take-bytes.new.m) ∙ (ap (λ l. held q ++ l) (sym b.0) ∙ c.loop-d.invariant.1)),
+            w.take_bytes.ensures.size ∙ c.loop-d.invariant.0,
+            ap (λ l. l ++ ends acts p w.take_bytes.new.m) w.take_bytes.ensures.value ∙ (append_assoc (held q) (ends acts (get_bytes k d.addr) m) (ends acts p w.take_bytes.new.m) ∙ (ap (λ l. held q ++ l) (sym b.0) ∙ c.loop-d.invariant.1)),
             sym b.1 ∙ c.loop-d.invariant.2,
           ))
-      | goal.else-not-is-writable w ↦
-          let b = gather_skip acts ds i _ (19 - q.len) m c.loop-d-test.true (sym c.is-writable.ensures ∙ w.if-not-is-writable.false) in
+      | goal.else-not-is_writable w ↦
+          let b = gather_skip acts ds i _ (19 - q.len) m c.loop-d-test.true (sym c.is_writable.ensures ∙ w.if-not-is_writable.false) in
           rw (w.out-is, w.m-is) (c.loop-d.invariant.0, ap (λ l. held q ++ l) (sym b.0) ∙ c.loop-d.invariant.1, sym b.1 ∙ c.loop-d.invariant.2)
     ]
 

@@ -1,7 +1,7 @@
 use Rattle.std.proofs.Common.{sym, refl, ◌∙◌}
 use Rattle.chains.proofs.Passes.{usable_outside, usable_writes, usable_reads, usable_late, usable_end}
 use Rattle.chains.proofs.chain.Chain.is_usable.Goals as goal
-use Rattle.chains.proofs.chain.Chain.is_usable.Goals.{then-is-writable, else-is-writable+else-written}
+use Rattle.chains.proofs.chain.Chain.is_usable.Goals.{then-is_writable, else-is_writable+else-written}
 
 pub returns-then-not-fits : goal.returns-then-not-fits
 returns-then-not-fits c =
@@ -9,13 +9,13 @@ returns-then-not-fits c =
 
 pub returns-then-written : goal.returns-then-written
 returns-then-written c =
-    sym (usable_late _ _ _ _ _ _ c.loop-d-test.true (sym c.if-is-writable.ensures) c.if-written.true) ∙ c.loop-d.invariant
+    sym (usable_late _ _ _ _ _ _ c.loop-d-test.true (sym c.if-is_writable.ensures) c.if-written.true) ∙ c.loop-d.invariant
 
 pub loop-d-preserved : goal.loop-d-preserved
 loop-d-preserved c =
-    elim c.if-is-writable.branch [
-      | then-is-writable w ↦ rw w.written-is (sym (usable_writes _ _ _ _ _ _ c.loop-d-test.true (sym c.if-not-fits.ensures) (sym w.if-is-writable.ensures)) ∙ c.loop-d.invariant)
-      | else-is-writable+else-written w ↦ rw w.written-is (sym (usable_reads _ _ _ _ _ _ c.loop-d-test.true (sym c.if-not-fits.ensures) (sym w.if-is-writable.ensures) w.if-written.false) ∙ c.loop-d.invariant)
+    elim c.if-is_writable.branch [
+      | then-is_writable w ↦ rw w.written-is (sym (usable_writes _ _ _ _ _ _ c.loop-d-test.true (sym c.if-not-fits.ensures) (sym w.if-is_writable.ensures)) ∙ c.loop-d.invariant)
+      | else-is_writable+else-written w ↦ rw w.written-is (sym (usable_reads _ _ _ _ _ _ c.loop-d-test.true (sym c.if-not-fits.ensures) (sym w.if-is_writable.ensures) w.if-written.false) ∙ c.loop-d.invariant)
     ]
 
 pub returns : goal.returns

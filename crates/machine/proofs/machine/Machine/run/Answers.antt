@@ -16,7 +16,7 @@ returns-in-Err c =
 pub loop-command-preserved : goal.loop-command-preserved
 loop-command-preserved c =
     let b = bench_of c.loop-command.self in let b₁ = bench_of c.step.new.self in let out = string_bytes c.loop-command.out in let out₁ = string_bytes c.step.new.out in
-    let w = subst (λ x. Went (step (cmd_of x) b) b₁ out out₁) c.command-item.is c.in-default.ensures in
+    let w = subst (λ x. Went (step (cmd_of x) b) b₁ out out₁) c.command-item.is c.in_default.ensures in
     let a = run_went c.args.commands.now c.loop-command.command-index _ c.loop-command-test.true b b₁ out out₁ w in
     (a.bench ∙ c.loop-command.invariant.0, a.stopped ∙ c.loop-command.invariant.1, a.output ∙ c.loop-command.invariant.2)
 

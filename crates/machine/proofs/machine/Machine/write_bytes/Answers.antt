@@ -9,7 +9,7 @@ use Rattle.machine.proofs.machine.Machine.write_bytes.Goals as goal
 
 pub returns : goal.returns
 returns c =
-    let v = c.args.self.now.memory in let xs = c.args.bytes.now in let a = c.args.at in let m = c.deref-mut.result.now in
-    let e = put_middle m c.copy-from-slice.new.self xs a _ c.copy-from-slice.ensures.after (omega arith) in
-    let l = ap length e ∙ (set_length m a xs (omega arith) ∙ c.deref-mut.ensures.len) in
-    wrote (bench_of c.args.self.now) a xs _ (omega arith) (with_items_is v _ l ∙ (e ∙ ap (λ y. set_bytes y a xs) c.deref-mut.ensures.value))
+    let v = c.args.self.now.memory in let xs = c.args.bytes.now in let a = c.args.at in let m = c.deref_mut.result.now in
+    let e = put_middle m c.copy_from_slice.new.self xs a _ c.copy_from_slice.ensures.after (omega arith) in
+    let l = ap length e ∙ (set_length m a xs (omega arith) ∙ c.deref_mut.ensures.len) in
+    wrote (bench_of c.args.self.now) a xs _ (omega arith) (with_items_is v _ l ∙ (e ∙ ap (λ y. set_bytes y a xs) c.deref_mut.ensures.value))
