@@ -8,7 +8,7 @@ returns-in_err-n c =
     let w = c.args.word.now in
     let i = c.loop-b.b-index in
     let e = not_taken c.loop-b.n (get_or w i 0) (drop (i + 1) w) c.in_err-n.ensures in
-    c.from-residual.ensures ∙ (sym e ∙ (sym (at_drop_more (after c.loop-b.n) w i 0 (omega arith)) ∙ (c.loop-b.invariant ∙ sym (number_is w (false-eqb _ 0 c.if-is_empty.ensures)))))
+    c.from_residual.ensures ∙ (sym e ∙ (sym (at_drop_more (after c.loop-b.n) w i 0 (omega arith)) ∙ (c.loop-b.invariant ∙ sym (number_is w (false-eqb _ 0 c.if-is_empty.ensures)))))
 
 pub loop-b-preserved : goal.loop-b-preserved
 loop-b-preserved c =

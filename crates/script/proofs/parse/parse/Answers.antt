@@ -6,7 +6,7 @@ use Rattle.script.specs.Commands.{cmd_of, line_says}
 use Rattle.script.proofs.Bounds.{reads_sound}
 use Rattle.script.proofs.Texts.{line_skipped, line_said, lines_end}
 use Rattle.script.proofs.parse.parse.Goals as goal
-use Rattle.script.proofs.parse.parse.Goals.{in-Nothing, in-Command+in_ok-push}
+use Rattle.script.proofs.parse.parse.Goals.{in-Nothing, in-Command+in_ok-push-in-Command}
 
 pub loop-rest-preserved : goal.loop-rest-preserved
 loop-rest-preserved c =
@@ -25,11 +25,11 @@ loop-rest-preserved c =
             let a = w.commands-is in
             let b = w.size-is in
             cc
-        | in-Command+in_ok-push w ↦
+        | in-Command+in_ok-push-in-Command w ↦
             let d = w.in-Command.command in
             let s : says (cmd_of d) ≡ line size l = ap line_says (sym w.in-Command.is) ∙ c.in_ok-read_line.ensures in
             let e = line_said cs size n rest l after cut (cmd_of d) s in
-            let p = chosen _ _ _ _ w.push.ensures.items (ap is_ok w.in_ok-push.was) in
+            let p = chosen _ _ _ _ w.push-in-Command.ensures.items (ap is_ok w.in_ok-push-in-Command.was) in
             let m = map_push cmd_of (vec_items c.loop-rest.commands) d in
             let a = w.commands-is in
             let b = w.size-is in
