@@ -3,7 +3,8 @@
 
 use machine::halt::Halt;
 use machine::machine::Machine;
-use std::io::Read;
+use std::io::{IsTerminal, Read};
+use std::process::ExitCode;
 use std::{env, fs, io};
 
 // Why the program ends with status 1.
@@ -79,7 +80,7 @@ fn start(rt: &HostRuntime) -> Result<(), Failure> {
     let file = words.next();
     let helps = match &file {
         Some(word) => asks_for_help(word.as_str()),
-        None => libc::isatty(0) == 1,
+        None => rt.stdin().is_terminal(),
     };
     if helps {
         usage(rt)?;
@@ -89,12 +90,13 @@ fn start(rt: &HostRuntime) -> Result<(), Failure> {
     play(rt, &text)
 }
 
-fn main(rt: HostRuntime) -> Result<(), Failure> {
+fn main(rt: HostRuntime) -> ExitCode {
     match start(&rt) {
+        Ok(()) => ExitCode::SUCCESS,
+        Err(Failure::Refused) => ExitCode::FAILURE,
         Err(Failure::Io(e)) => {
-            eprintln!(rt; "dovrelzi: {e}")?;
-            Err(Failure::Io(e))
+            let _ = eprintln!(rt; "dovrelzi: {e}");
+            ExitCode::FAILURE
         }
-        done => done,
     }
 }

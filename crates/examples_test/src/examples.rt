@@ -2,7 +2,6 @@
 use crate::answers::*;
 use crate::setup::*;
 use std::alloc::{AllocError, Global};
-use std::process::Abort;
 use std::test::*;
 
 // A read of a block: the response is in the writable part, and the chain is used.
@@ -13,7 +12,7 @@ fn reads_a_block(rt: HostRuntime) -> Result<(), Fail> {
     want.put(48, BLOCK);
     want.mark_used(0, 0, 17);
     want.put_state(1, 0);
-    is_served(&rt, s.serve(1), 0)?;
+    is_served(s.serve(1), 0)?;
     s.is_as(&want)
 }
 
@@ -21,11 +20,14 @@ fn reads_a_block(rt: HostRuntime) -> Result<(), Fail> {
 #[test]
 fn reads_a_block_there(rt: HostRuntime) -> Result<(), Fail> {
     let mut s = Setup::example(rt.alloc())?;
-    is_served(&rt, s.serve(1), 0)?;
+    is_served(s.serve(1), 0)?;
     assert!(rt; s.memory.len() == 65);
-    assert_eq!(rt; &s.memory[22..32], &[1, 0, 0, 0, 17, 0, 0, 0, 0, 0]);
-    assert_eq!(rt; &s.memory[48..65], BLOCK);
-    assert_eq!(rt; &s.state, &[1, 0]);
+    assert_eq!(rt;
+        &s.memory[22..32],
+        [1, 0, 0, 0, 17, 0, 0, 0, 0, 0].as_slice()
+    );
+    assert_eq!(rt; &s.memory[48..65], BLOCK.as_slice());
+    assert_eq!(rt; s.state.as_slice(), [1, 0].as_slice());
     Ok(())
 }
 
@@ -41,7 +43,7 @@ fn writes_a_block(rt: HostRuntime) -> Result<(), Fail> {
     want.keep(16, b"ABCDEFGHIJKLMNOP");
     want.mark_used(0, 0, 1);
     want.put_state(1, 0);
-    is_served(&rt, s.serve(1), 0)?;
+    is_served(s.serve(1), 0)?;
     s.is_as(&want)
 }
 
@@ -53,29 +55,29 @@ fn cuts_the_response(rt: HostRuntime) -> Result<(), Fail> {
     want.put(48, &[0, 16, 17, 18]);
     want.mark_used(0, 0, 4);
     want.put_state(1, 0);
-    is_served(&rt, s.serve(1), 0)?;
+    is_served(s.serve(1), 0)?;
     s.is_as(&want)
 }
 
 // What is no request, or asks for a block that is not kept, is answered by 255.
-fn answers_255(rt: &impl Abort, heap: Global, request: &[u8]) -> Result<(), Fail> {
+fn answers_255(heap: Global, request: &[u8]) -> Result<(), Fail> {
     let mut s = Setup::example(heap)?;
     s.put(40, request);
     let mut want = s.copied(heap)?;
     want.put(48, &[255]);
     want.mark_used(0, 0, 1);
     want.put_state(1, 0);
-    is_served(rt, s.serve(1), 0)?;
+    is_served(s.serve(1), 0)?;
     s.is_as(&want)
 }
 
 // No code, a write that is too short, and reads past what is kept.
 #[test]
 fn answers_no_request(rt: HostRuntime) -> Result<(), Fail> {
-    answers_255(&rt, rt.alloc(), &[7, 7])?;
-    answers_255(&rt, rt.alloc(), &[1, 0])?;
-    answers_255(&rt, rt.alloc(), &[0, 2])?;
-    answers_255(&rt, rt.alloc(), &[0, 255])
+    answers_255(rt.alloc(), &[7, 7])?;
+    answers_255(rt.alloc(), &[1, 0])?;
+    answers_255(rt.alloc(), &[0, 2])?;
+    answers_255(rt.alloc(), &[0, 255])
 }
 
 // A part of no bytes may stand at the memory's end.
@@ -85,7 +87,7 @@ fn takes_an_empty_part_at_the_end(rt: HostRuntime) -> Result<(), Fail> {
     let mut want = s.copied(rt.alloc())?;
     want.mark_used(0, 0, 0);
     want.put_state(1, 0);
-    is_served(&rt, s.serve(1), 0)?;
+    is_served(s.serve(1), 0)?;
     s.is_as(&want)
 }
 
@@ -109,7 +111,7 @@ fn passes_over_other_flags(rt: HostRuntime) -> Result<(), Fail> {
     want.put(48, BLOCK);
     want.mark_used(0, 0, 17);
     want.put_state(1, 0);
-    is_served(&rt, s.serve(1), 0)?;
+    is_served(s.serve(1), 0)?;
     s.is_as(&want)
 }
 
@@ -125,7 +127,7 @@ fn takes_parts_beside_the_ring(rt: HostRuntime) -> Result<(), Fail> {
     want.put(52, BLOCK);
     want.mark_used(0, 0, 17);
     want.put_state(1, 0);
-    is_served(&rt, s.serve(1), 0)?;
+    is_served(s.serve(1), 0)?;
     s.is_as(&want)
 }
 
@@ -159,7 +161,7 @@ fn takes_a_full_chain(rt: HostRuntime) -> Result<(), Fail> {
     want.put(910, BLOCK);
     want.mark_used(0, 0, 17);
     want.put_state(1, 0);
-    is_served(&rt, s.serve(1), 0)?;
+    is_served(s.serve(1), 0)?;
     s.is_as(&want)
 }
 
@@ -174,11 +176,11 @@ fn counts_across_the_end(rt: HostRuntime) -> Result<(), Fail> {
     want.put(48, BLOCK);
     want.mark_used(65535, 0, 17);
     want.put_state(0, 0);
-    is_served(&rt, s.serve(1), 1)?;
+    is_served(s.serve(1), 1)?;
     s.is_as(&want)?;
     want.mark_used(0, 0, 17);
     want.put_state(1, 0);
-    is_served(&rt, s.serve(1), 0)?;
+    is_served(s.serve(1), 0)?;
     s.is_as(&want)
 }
 
@@ -188,14 +190,14 @@ fn keeps_the_budget(rt: HostRuntime) -> Result<(), Fail> {
     let mut s = Setup::example(rt.alloc())?;
     s.offer(1, 0);
     let mut want = s.copied(rt.alloc())?;
-    is_served(&rt, s.serve(0), 2)?;
+    is_served(s.serve(0), 2)?;
     s.is_as(&want)?;
     want.put(48, BLOCK);
     want.mark_used(0, 0, 17);
     want.mark_used(1, 0, 17);
     want.put_state(2, 0);
-    is_served(&rt, s.serve(1000), 0)?;
+    is_served(s.serve(1000), 0)?;
     s.is_as(&want)?;
-    is_served(&rt, s.serve(1000), 0)?;
+    is_served(s.serve(1000), 0)?;
     s.is_as(&want)
 }

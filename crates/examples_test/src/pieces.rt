@@ -7,8 +7,8 @@ use std::test::*;
 #[test]
 fn there(rt: HostRuntime) -> Result<(), Fail> {
     let s = Setup::example(rt.alloc())?;
-    assert_eq!(rt; piece(2, 0, &s.memory, 0), &[0, 1]);
-    assert_eq!(rt; piece(2, 0, &s.memory, 1), &[0; 17]);
+    assert_eq!(rt; piece(2, 0, &s.memory, 0), [0, 1].as_slice());
+    assert_eq!(rt; piece(2, 0, &s.memory, 1), [0; 17].as_slice());
     Ok(())
 }
 
@@ -16,7 +16,10 @@ fn there(rt: HostRuntime) -> Result<(), Fail> {
 #[test]
 fn in_the_ring(rt: HostRuntime) -> Result<(), Fail> {
     let s = Setup::chain_of(rt.alloc(), readable(0, 8, 1), writable(65, 0))?;
-    assert_eq!(rt; piece(2, 0, &s.memory, 0), &[0, 0, 8, 0, 1, 0, 1, 0]);
+    assert_eq!(rt;
+        piece(2, 0, &s.memory, 0),
+        [0, 0, 8, 0, 1, 0, 1, 0].as_slice()
+    );
     assert!(rt; piece(2, 0, &s.memory, 1).is_empty());
     Ok(())
 }

@@ -2,28 +2,27 @@
 use crate::answers::*;
 use crate::setup::*;
 use std::alloc::Global;
-use std::process::Abort;
 use std::test::*;
 
 // Checks that the example as a ring of other places, or that begins elsewhere, is refused.
-fn refuses_ring(rt: &impl Abort, heap: Global, places: u64, begins: u64) -> Result<(), Fail> {
+fn refuses_ring(heap: Global, places: u64, begins: u64) -> Result<(), Fail> {
     let mut s = Setup::example(heap)?;
     let want = s.copied(heap)?;
-    is_refused(rt, s.serve_as(places, begins, 1), 1)?;
+    is_refused(s.serve_as(places, begins, 1), 1)?;
     s.is_as(&want)
 }
 
 // Numbers of places that are none, and rings that do not lie in memory.
 #[test]
 fn no_ring(rt: HostRuntime) -> Result<(), Fail> {
-    refuses_ring(&rt, rt.alloc(), 0, 0)?;
-    refuses_ring(&rt, rt.alloc(), 3, 0)?;
-    refuses_ring(&rt, rt.alloc(), 65, 0)?;
-    refuses_ring(&rt, rt.alloc(), 128, 0)?;
-    refuses_ring(&rt, rt.alloc(), u64::MAX, 0)?;
-    refuses_ring(&rt, rt.alloc(), 2, 34)?;
-    refuses_ring(&rt, rt.alloc(), 2, u64::MAX)?;
-    refuses_ring(&rt, rt.alloc(), 2, u64::MAX - 30)
+    refuses_ring(rt.alloc(), 0, 0)?;
+    refuses_ring(rt.alloc(), 3, 0)?;
+    refuses_ring(rt.alloc(), 65, 0)?;
+    refuses_ring(rt.alloc(), 128, 0)?;
+    refuses_ring(rt.alloc(), u64::MAX, 0)?;
+    refuses_ring(rt.alloc(), 2, 34)?;
+    refuses_ring(rt.alloc(), 2, u64::MAX)?;
+    refuses_ring(rt.alloc(), 2, u64::MAX - 30)
 }
 
 // A ring may end with the memory.
@@ -31,7 +30,7 @@ fn no_ring(rt: HostRuntime) -> Result<(), Fail> {
 fn ring_at_the_end(rt: HostRuntime) -> Result<(), Fail> {
     let mut s = Setup::empty(rt.alloc(), 2, 33, 65)?;
     let want = s.copied(rt.alloc())?;
-    is_served(&rt, s.serve(1), 0)?;
+    is_served(s.serve(1), 0)?;
     s.is_as(&want)
 }
 
@@ -39,31 +38,31 @@ fn ring_at_the_end(rt: HostRuntime) -> Result<(), Fail> {
 #[test]
 fn memory_too_long(rt: HostRuntime) -> Result<(), Fail> {
     let mut s = Setup::empty(rt.alloc(), 2, 0, 65536)?;
-    is_served(&rt, s.serve(1), 0)?;
+    is_served(s.serve(1), 0)?;
     let mut s = Setup::empty(rt.alloc(), 2, 0, 65537)?;
     s.put_state(0, 2);
-    is_refused(&rt, s.serve(1), 1)?;
-    assert_eq!(rt; &s.state, &[0, 2]);
+    is_refused(s.serve(1), 1)?;
+    assert_eq!(rt; s.state.as_slice(), [0, 2].as_slice());
     Ok(())
 }
 
 // Checks that the example is refused with these numbers for its state.
-fn refuses_state(rt: &impl Abort, heap: Global, state: &[u32]) -> Result<(), Fail> {
+fn refuses_state(heap: Global, state: &[u32]) -> Result<(), Fail> {
     let mut s = Setup::example(heap)?;
     s.state = state.to_vec(heap)?;
     let want = s.copied(heap)?;
-    is_refused(rt, s.serve(2000), 2)?;
+    is_refused(s.serve(2000), 2)?;
     s.is_as(&want)
 }
 
 // States that are none.
 #[test]
 fn no_state(rt: HostRuntime) -> Result<(), Fail> {
-    refuses_state(&rt, rt.alloc(), &[])?;
-    refuses_state(&rt, rt.alloc(), &[0])?;
-    refuses_state(&rt, rt.alloc(), &[0, 0, 0])?;
-    refuses_state(&rt, rt.alloc(), &[65536, 0])?;
-    refuses_state(&rt, rt.alloc(), &[0, 2])
+    refuses_state(rt.alloc(), &[])?;
+    refuses_state(rt.alloc(), &[0])?;
+    refuses_state(rt.alloc(), &[0, 0, 0])?;
+    refuses_state(rt.alloc(), &[65536, 0])?;
+    refuses_state(rt.alloc(), &[0, 2])
 }
 
 // Contents of 4,096 bytes are taken, and no longer ones.
@@ -72,10 +71,10 @@ fn contents_too_long(rt: HostRuntime) -> Result<(), Fail> {
     let mut s = Setup::example(rt.alloc())?;
     s.kept = vec![in rt.alloc(); 5; 4097]?;
     let want = s.copied(rt.alloc())?;
-    is_refused(&rt, s.serve(2000), 3)?;
+    is_refused(s.serve(2000), 3)?;
     s.is_as(&want)?;
     s.kept = vec![in rt.alloc(); 5; 4096]?;
-    is_served(&rt, s.serve(1), 0)
+    is_served(s.serve(1), 0)
 }
 
 // A thousand servings may be asked for, and no more.
@@ -83,9 +82,9 @@ fn contents_too_long(rt: HostRuntime) -> Result<(), Fail> {
 fn too_many_times(rt: HostRuntime) -> Result<(), Fail> {
     let mut s = Setup::example(rt.alloc())?;
     let want = s.copied(rt.alloc())?;
-    is_refused(&rt, s.serve(1001), 4)?;
+    is_refused(s.serve(1001), 4)?;
     s.is_as(&want)?;
-    is_refused(&rt, s.serve(u64::MAX), 4)?;
+    is_refused(s.serve(u64::MAX), 4)?;
     s.is_as(&want)?;
-    is_served(&rt, s.serve(1000), 0)
+    is_served(s.serve(1000), 0)
 }

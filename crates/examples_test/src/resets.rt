@@ -18,7 +18,7 @@ fn serves_again(rt: HostRuntime) -> Result<(), Fail> {
     want.put(49, &[90, 91]);
     want.mark_used(0, 0, 17);
     want.put_state(1, 0);
-    is_served(&rt, s.serve(1), 0)?;
+    is_served(s.serve(1), 0)?;
     s.is_as(&want)
 }
 
@@ -35,10 +35,10 @@ fn takes_any_two_numbers(rt: HostRuntime) -> Result<(), Fail> {
 #[test]
 fn refuses_another_length(rt: HostRuntime) -> Result<(), Fail> {
     let mut three = [1, 2, 3];
-    is_refused(&rt, begin_anew(&mut three), 2)?;
+    is_refused(begin_anew(&mut three), 2)?;
     assert_eq!(rt; three, [1, 2, 3]);
     let mut one = [1];
-    is_refused(&rt, begin_anew(&mut one), 2)?;
+    is_refused(begin_anew(&mut one), 2)?;
     assert_eq!(rt; one, [1]);
     Ok(())
 }

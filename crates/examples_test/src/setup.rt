@@ -197,9 +197,15 @@ impl Setup {
 
     // Checks that memory, state and contents are as in `other`.
     pub fn is_as(&self, other: &Setup) -> Result<(), Fail> {
-        assert_eq!(&self.memory, &other.memory, "memory");
-        assert_eq!(&self.state, &other.state, "state");
-        assert_eq!(&self.kept, &other.kept, "contents");
+        if self.memory.as_slice() != other.memory.as_slice() {
+            return Err(Fail::new("memory"));
+        }
+        if self.state.as_slice() != other.state.as_slice() {
+            return Err(Fail::new("state"));
+        }
+        if self.kept.as_slice() != other.kept.as_slice() {
+            return Err(Fail::new("contents"));
+        }
         Ok(())
     }
 }
