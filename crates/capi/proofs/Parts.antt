@@ -1,5 +1,5 @@
 -- The numbers of the part that a descriptor names.
-use Rattle.std.proofs.Common.{◌≡◌, ℕ, ◌+◌, ◌*◌, ◌<◌, ◌≤◌, Bool, true, false, cond, ◌&&◌, ltb, leb, ◌⊎◌, List, [], length, take, drop, sym, refl, ap, ◌∙◌, inl, inr}
+use Rattle.std.proofs.Common.{◌≡◌, ℕ, ◌+◌, ◌*◌, true, cond, ◌&&◌, ltb, leb, List, length, take, drop, sym, refl, ap, inl, inr}
 use Rattle.std.proofs.lemmas.Bool.{and_parts, and_from, ltb-true, lt-ltb, leb-true, le-leb, cases_Bool}
 use Rattle.vring.specs.Words.{word}
 use Rattle.vring.specs.Rings.{Ring, placed_ok}

@@ -1,10 +1,10 @@
 -- What the definitions of chains mean.
-use Rattle.std.proofs.Common.{◌≡◌, ℕ, zero, suc, ◌+◌, ◌*◌, ◌<◌, ◌≤◌, Bool, true, false, cond, not, ◌&&◌, ◌||◌, ltb, leb, ◌⊎◌, List, [], ◌∷◌, length, sym, refl, ap, ◌∙◌, inl, inr, arith}
+use Rattle.std.proofs.Common.{◌≡◌, ℕ, zero, suc, ◌+◌, ◌*◌, ◌≤◌, Bool, true, false, cond, not, ◌&&◌, ◌||◌, ltb, leb, List, [], ◌∷◌, length, refl, inl, inr, arith}
 use Rattle.std.proofs.lemmas.Bool.{and_parts, and_from, or_cases, or_left, or_right, leb-true, le-leb, ltb-true, lt-ltb, cond_both, cases_Bool, not-true, both_ways}
 use Rattle.chains.specs.Descriptors.{has_next, writable, descriptor_at, next_at}
 use Rattle.chains.specs.Chains.{Walk, bad, goes, with_first, chain_from}
 use Rattle.chains.specs.Usable.{clear, fits, usable}
-use Rattle.chains.specs.Laws.{Linked, last, more, ChainMeans, Clear, AllClear, Fit, AllFit, AllWritable, InOrder, UsableMeans}
+use Rattle.chains.specs.Laws.{Linked, last, more, ChainMeans, AllClear, Fit, AllFit, AllWritable, InOrder, UsableMeans}
 use Rattle.chains.specs.declared.descriptor.Descriptor.{Descriptor}
 use Rattle.chains.specs.declared.region.Region.{Region}
 

@@ -1,7 +1,7 @@
 -- Steps of following a chain, as the code takes them.
-use Rattle.std.proofs.Common.{◌≡◌, ℕ, zero, suc, ◌+◌, ◌-◌, ◌*◌, ◌<◌, ◌≤◌, Bool, true, false, cond, List, [], ◌∷◌, ◌++◌, sym, refl, ap, ◌∙◌, append_assoc, arith}
+use Rattle.std.proofs.Common.{◌≡◌, ℕ, zero, suc, ◌+◌, ◌-◌, ◌*◌, ◌<◌, ◌≤◌, Bool, true, false, List, [], ◌∷◌, ◌++◌, refl, ap, ◌∙◌, append_assoc, arith}
 use Rattle.std.proofs.lemmas.Bool.{lt-ltb, le-ltb}
-use Rattle.vring.specs.Programs.{Prog, ret, get, then, pair, Acts, ends, leaves}
+use Rattle.vring.specs.Programs.{Prog, ret, then, pair, Acts, ends, leaves}
 use Rattle.vring.proofs.Binds.{ends_then, leaves_then, ends_by, leaves_by, ends_get, leaves_get}
 use Rattle.chains.specs.Descriptors.{has_next, descriptor_prog}
 use Rattle.chains.specs.Chains.{Walk, bad, goes, with_first, link_prog, chain_prog, Follows}

@@ -1,5 +1,5 @@
 -- What the definitions of chains mean, in the ring's own words.
-use Rattle.std.specs.Prelude.{◌≡◌, ℕ, ◌+◌, ◌*◌, ◌<◌, ◌≤◌, Bool, true, false, ◌⊎◌, ◌↔◌, List, [], ◌∷◌, length, get_or}
+use Rattle.std.specs.Prelude.{◌≡◌, ℕ, ◌+◌, ◌*◌, ◌<◌, ◌≤◌, Bool, true, false, ◌⊎◌, ◌↔◌, List, [], ◌∷◌, length}
 use Rattle.vring.specs.Programs.{ends, leaves}
 use Rattle.vring.specs.Plain.{plain}
 use Rattle.chains.specs.Descriptors.{has_next, writable, described, descriptor_at, next_at}

@@ -1,7 +1,7 @@
 -- What the device's definitions mean.
-use Rattle.std.proofs.Common.{◌≡◌, ℕ, zero, suc, ◌+◌, ◌-◌, ◌*◌, ◌<◌, ◌≤◌, min, Bool, true, false, cond, ◌&&◌, eqb, leb, ◌⊎◌, List, [], ◌∷◌, length, get_or, take, drop, sym, refl, ap, ◌∙◌, ap₂, inl, inr, arith, rules}
+use Rattle.std.proofs.Common.{◌≡◌, ℕ, ◌+◌, ◌*◌, ◌<◌, ◌≤◌, true, false, ◌&&◌, eqb, leb, ◌⊎◌, List, [], ◌∷◌, length, get_or, take, drop, sym, refl, ◌∙◌, inl, inr, arith, rules}
 use Rattle.std.proofs.lemmas.List.{places, same_lists, length-take-le, length-drop, get_or-take, take_all}
-use Rattle.std.proofs.lemmas.Bool.{and_parts, and_from, leb-true, le-leb, eqb-true, eq-eqb, cond_both, cases_Bool, cases_lt, cases_eq, ne_eqb}
+use Rattle.std.proofs.lemmas.Bool.{and_parts, leb-true, le-leb, eqb-true, cond_both, cases_Bool, cases_lt, cases_eq, ne_eqb}
 use Rattle.vring.specs.Words.{set_bytes}
 use Rattle.vring.proofs.Bytes.{set_length, set_where}
 use Rattle.device.specs.Device.{block_at, is_read, is_write, response, kept_after}

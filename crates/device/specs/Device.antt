@@ -1,5 +1,5 @@
 -- The device: what it does for a request, and what it keeps.
-use Rattle.std.specs.Prelude.{ℕ, ◌+◌, ◌*◌, Bool, true, false, cond, ◌&&◌, List, [], ◌∷◌, length, take, drop, ◌==◌, nat_le, slice_index}
+use Rattle.std.specs.Prelude.{ℕ, ◌+◌, ◌*◌, Bool, cond, ◌&&◌, List, [], ◌∷◌, length, take, drop, ◌==◌, nat_le, slice_index}
 use Rattle.vring.specs.Words.{set_bytes}
 
 -- the sixteen bytes that a request names begin at sixteen times its second byte

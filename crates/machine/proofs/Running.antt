@@ -1,12 +1,11 @@
 -- Commands one after the other.
-use Rattle.std.proofs.Common.{◌≡◌, ℕ, ◌+◌, ◌<◌, ◌≤◌, List, [], ◌∷◌, ◌++◌, map, length, get_or, drop, Some, None, Ok, Err, sym, refl, ap, ◌∙◌, append_assoc}
+use Rattle.std.proofs.Common.{◌≡◌, ℕ, ◌+◌, ◌<◌, ◌≤◌, List, [], ◌++◌, map, length, get_or, drop, Some, None, Err, sym, ap, ◌∙◌, append_assoc}
 use Rattle.std.proofs.lemmas.List.{at_drop_more, at_drop_all}
-use Rattle.script.specs.Format.{Cmd}
 use Rattle.script.specs.Commands.{cmd_of}
 use Rattle.script.specs.declared.command.Command.{Command}
 use Rattle.machine.specs.Bench.{Bench}
 use Rattle.machine.specs.Steps.{Step, goes, refuses, step}
-use Rattle.machine.specs.Runs.{Ran, behind, after_step, refusal_line, run, Went, RefusedBy, Steps, Told, Ended, Runs}
+use Rattle.machine.specs.Runs.{Ran, after_step, refusal_line, run, Went, RefusedBy, Steps, Told, Ended, Runs}
 use Rattle.machine.specs.declared.refusal.Refusal.{Refusal}
 use Rattle.machine.specs.declared.halt.Halt.{Halt}
 use Rattle.machine.specs.declared.halt.Halt.TheVariants.{Refused, NoMemory}

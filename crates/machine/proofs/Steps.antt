@@ -1,14 +1,13 @@
 -- What a step leaves, as the code does it.
-use Rattle.std.proofs.Common.{◌≡◌, ℕ, zero, suc, ◌+◌, ◌≤◌, true, cond, leb, List, [], ◌∷◌, ◌++◌, length, codes, sym, refl, ap, ◌∙◌, ap₂, append_assoc}
+use Rattle.std.proofs.Common.{◌≡◌, ℕ, zero, suc, ◌+◌, ◌≤◌, cond, leb, List, [], ◌++◌, length, codes, refl, ap, ◌∙◌, ap₂, append_assoc}
 use Rattle.std.proofs.lemmas.Bool.{le-leb}
 use Rattle.vring.specs.Words.{set_bytes}
-use Rattle.vring.specs.Rings.{Ring}
-use Rattle.model.specs.Serving.{State, serve_times}
-use Rattle.serving.specs.Entries.{numbers_of, answer, Serves, Refuses, ServeSays}
+use Rattle.model.specs.Serving.{serve_times}
+use Rattle.serving.specs.Entries.{answer, ServeSays}
 use Rattle.serving.specs.declared.done.Done.{Done}
 use Rattle.serving.specs.declared.done.Done.TheVariants.{Refused}
 use Rattle.machine.specs.Bench.{Bench}
-use Rattle.machine.specs.Steps.{changes, answered, Step, goes, refuses, with_memory, state_on, bench_at, served, serve_step}
+use Rattle.machine.specs.Steps.{changes, answered, goes, refuses, with_memory, state_on, bench_at, serve_step}
 use Rattle.machine.specs.Runs.{Went}
 use Rattle.machine.specs.declared.refusal.Refusal.TheVariants.{Outside}
 

@@ -1,5 +1,5 @@
 -- Many commands, and a whole script.
-use Rattle.std.specs.Prelude.{◌≡◌, ℕ, List, [], ◌∷◌, ◌++◌, map, Some, None, Ok, Err, Option, Result}
+use Rattle.std.specs.Prelude.{◌≡◌, ℕ, List, [], ◌∷◌, ◌++◌, Some, None, Ok, Err, Option, Result}
 use Rattle.script.specs.Format.{Cmd, read}
 use Rattle.report.specs.Lines.{refused}
 use Rattle.machine.specs.Refusals.{number_of, place_of}

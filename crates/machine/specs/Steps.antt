@@ -1,5 +1,5 @@
 -- What each command does, and what it prints.
-use Rattle.std.specs.Prelude.{ℕ, zero, suc, ◌+◌, ◌%◌, Bool, true, false, cond, List, [], ◌∷◌, ◌++◌, length, replicate, Some, None, codes, Option, ◌==◌, nat_le, nat_lt, slice_index}
+use Rattle.std.specs.Prelude.{ℕ, zero, suc, ◌+◌, ◌%◌, cond, List, [], ◌∷◌, ◌++◌, length, replicate, Some, None, codes, ◌==◌, nat_le, nat_lt, slice_index}
 use Rattle.vring.specs.Words.{set_bytes}
 use Rattle.vring.specs.Rings.{Ring, size_ok, ends_at}
 use Rattle.model.specs.Serving.{State, serve_times}

@@ -1,5 +1,5 @@
 -- When a chain is served, when the device stops, and how much of a response is written.
-use Rattle.std.proofs.Common.{◌≡◌, ℕ, ◌<◌, ◌≤◌, Bool, true, false, cond, eqb, leb, ◌⊎◌, List, [], ◌∷◌, length, sym, refl, ap, ◌∙◌, inl, inr, arith}
+use Rattle.std.proofs.Common.{◌≡◌, ◌<◌, ◌≤◌, true, false, cond, List, length, refl, ap, ◌∙◌, inl, inr, arith}
 use Rattle.std.proofs.lemmas.Bool.{eq-eqb, ne_eqb, le-leb, lt-leb, cases_Bool}
 use Rattle.std.proofs.lemmas.List.{length-take, get_or-take}
 use Rattle.vring.specs.Rings.{Ring}
@@ -8,7 +8,7 @@ use Rattle.chains.specs.Usable.{usable}
 use Rattle.chains.specs.declared.descriptor.Descriptor.{Descriptor}
 use Rattle.chains.proofs.Meanings.{chain_means, usable_means}
 use Rattle.transfer.specs.Requests.{request}
-use Rattle.model.specs.Serving.{pending, head, chain, regions, Look, nothing, halt, job, look_chain, offer, look, State, cut, stop, done, act, serve}
+use Rattle.model.specs.Serving.{pending, head, chain, regions, halt, job, look_chain, offer, look, State, cut, stop, act, serve}
 use Rattle.transfer.specs.Responses.{capacity}
 use Rattle.device.specs.Device.{response}
 use Rattle.model.specs.Promises.{waits}

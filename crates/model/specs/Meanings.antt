@@ -1,5 +1,5 @@
 -- When a chain is served and when the device stops, in the ring's own words; and what the guest finds in memory afterwards.
-use Rattle.std.specs.Prelude.{◌≡◌, ℕ, ◌+◌, ◌%◌, ◌<◌, ◌≤◌, min, Bool, true, false, cond, List, [], ◌∷◌, ◌++◌, length, take, drop, slice_index}
+use Rattle.std.specs.Prelude.{◌≡◌, ℕ, ◌+◌, ◌%◌, ◌<◌, ◌≤◌, min, true, false, cond, List, [], ◌∷◌, ◌++◌, length, take, drop, slice_index}
 use Rattle.vring.specs.Words.{word}
 use Rattle.vring.specs.Rings.{Ring, used_at, entry_at, ring_ok}
 use Rattle.chains.specs.Descriptors.{writable}

@@ -1,5 +1,5 @@
 -- What is promised of every memory, every state and every number of servings. Each statement is proved, and stands on a contract.
-use Rattle.std.specs.Prelude.{◌≡◌, ℕ, zero, suc, ◌+◌, ◌-◌, ◌*◌, ◌%◌, ◌<◌, ◌≤◌, Bool, true, false, ◌⊎◌, List, [], ◌∷◌, length, get_or, slice_index, slice_index_or}
+use Rattle.std.specs.Prelude.{◌≡◌, ℕ, zero, suc, ◌+◌, ◌%◌, ◌<◌, ◌≤◌, true, false, ◌⊎◌, List, [], ◌∷◌, length, get_or, slice_index, slice_index_or}
 use Rattle.vring.specs.Words.{word}
 use Rattle.vring.specs.Rings.{Ring, available_at, used_at, entry_at, ring_ok}
 use Rattle.chains.specs.Descriptors.{writable}
@@ -8,7 +8,7 @@ use Rattle.chains.specs.Usable.{usable}
 use Rattle.chains.specs.declared.descriptor.Descriptor.{Descriptor}
 use Rattle.transfer.specs.Requests.{request}
 use Rattle.device.specs.Device.{kept_after}
-use Rattle.model.specs.Serving.{pending, head, chain, regions, job, offer, State, done, serve, serve_times, reset}
+use Rattle.model.specs.Serving.{pending, head, chain, regions, job, offer, State, done, serve_times, reset}
 
 -- the ring stands in memory, and the device is one that the entries take
 pub record Sound (r : Ring) (b : State) : Type 0 where

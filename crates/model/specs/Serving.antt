@@ -1,5 +1,5 @@
 -- What one serving does, over a memory that nobody else writes: a look, which only reads, and an act, which reads nothing.
-use Rattle.std.specs.Prelude.{ℕ, zero, suc, ◌+◌, ◌-◌, ◌%◌, Bool, true, false, cond, List, [], ◌∷◌, length, take, ◌==◌, nat_le}
+use Rattle.std.specs.Prelude.{ℕ, zero, suc, ◌+◌, ◌-◌, ◌%◌, true, false, cond, List, [], ◌∷◌, length, take, ◌==◌, nat_le}
 use Rattle.vring.specs.Words.{word}
 use Rattle.vring.specs.Rings.{Ring, available_at, ends_at, head_at}
 use Rattle.chains.specs.Chains.{Walk, bad, goes, chain_from}

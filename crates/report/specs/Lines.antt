@@ -1,5 +1,5 @@
 -- The lines that are printed of what happened, each with its end.
-use Rattle.std.specs.Prelude.{ℕ, List, [], ◌∷◌, ◌++◌, Some, None, codes, decimal, Option}
+use Rattle.std.specs.Prelude.{ℕ, List, ◌++◌, Some, None, codes, decimal, Option}
 use Rattle.script.specs.Shown.{spaced}
 
 -- a byte at a place was one value, and is another

@@ -1,10 +1,10 @@
 -- What is read has numbers below 2^64, and bytes below 256 that lie in memory.
-use Rattle.std.proofs.Common.{◌≡◌, ℕ, ◌+◌, ◌-◌, ◌^◌, ◌<◌, ◌≤◌, Bool, true, false, cond, ◌&&◌, eqb, ltb, leb, List, [], ◌∷◌, length, get_or, take, Some, None, Ok, Err, codes, Option, Result, subst, arith}
+use Rattle.std.proofs.Common.{ℕ, ◌+◌, ◌-◌, ◌^◌, ◌<◌, ◌&&◌, eqb, ltb, leb, List, [], ◌∷◌, length, get_or, take, Some, None, Ok, Err, codes, Option, Result, subst, arith}
 use Rattle.std.specs.Option.{option_map}
 use Rattle.std.specs.List.{AllByRecursion as All}
 use Rattle.std.specs.Str.{all_ascii_digits, bytes_eq}
 use Rattle.std.proofs.lemmas.Bool.{and_parts, cond_both, ltb-true, leb-true}
-use Rattle.script.specs.Format.{Cmd, memory, ring, bytes_at, kept, serve, anew, piece, Line, skipped, says, unreadable, said, meaning, line, lines, words, number, value, only, both, number_at, small, byte, before, row, address, laid, bytes_in, alone, command, size_after, first, go_on, read_lines, read}
+use Rattle.script.specs.Format.{Cmd, memory, ring, bytes_at, kept, serve, anew, piece, Line, skipped, says, unreadable, said, meaning, line, lines, words, number, value, only, both, number_at, small, byte, before, row, address, laid, bytes_in, alone, command, size_after, first, go_on, read_lines}
 use Rattle.script.specs.Laws.{Sound, Sounds, ReadsSound}
 
 -- what holds of a value, if there is one

@@ -1,10 +1,9 @@
 -- The command of a word by its keyword, and what a line says by its words.
-use Rattle.std.proofs.Common.{◌≡◌, ℕ, Bool, true, false, cond, eqb, List, [], ◌∷◌, length, get_or, Some, None, codes, Option, sym, refl, ap, ◌∙◌, arith}
-use Rattle.std.specs.Option.{option_map}
+use Rattle.std.proofs.Common.{◌≡◌, ℕ, Bool, true, false, cond, eqb, List, [], ◌∷◌, length, get_or, None, codes, Option, refl, arith}
 use Rattle.std.specs.Str.{bytes_eq}
 use Rattle.script.specs.declared.keyword.Keyword.{Keyword}
 use Rattle.script.specs.declared.keyword.Keyword.TheVariants.{Memory, Ring, Bytes, Kept, Serve, Anew, Piece, Other}
-use Rattle.script.specs.Format.{Cmd, bytes_in, command, only, number_at, alone, memory, ring, kept, serve, anew, piece}
+use Rattle.script.specs.Format.{Cmd, bytes_in, command}
 use Rattle.script.specs.Keywords.{keyword_of, by_keyword}
 
 -- a choice first, and a function of it then

@@ -1,12 +1,12 @@
 -- What is written is read again.
-use Rattle.std.proofs.Common.{◌≡◌, ℕ, ◌+◌, ◌-◌, ◌^◌, ◌<◌, ◌≤◌, Bool, true, false, cond, ◌&&◌, eqb, ltb, leb, List, [], ◌∷◌, ◌++◌, map, length, get_or, take, Some, None, Ok, Err, codes, decimal, Option, Result, sym, refl, ap, ◌∙◌, append_assoc, arith}
+use Rattle.std.proofs.Common.{◌≡◌, ℕ, ◌+◌, ◌-◌, ◌^◌, ◌<◌, ◌≤◌, true, cond, eqb, ltb, List, [], ◌∷◌, ◌++◌, map, length, get_or, take, Some, None, Ok, codes, decimal, sym, refl, ap, ◌∙◌, append_assoc, arith}
 use Rattle.std.specs.Option.{option_map}
 use Rattle.std.specs.List.{AllByRecursion as All}
 use Rattle.std.specs.Str.{all_ascii_digits}
 use Rattle.std.proofs.lemmas.Fmt.{decimal_nonempty, digits_decimal, digits_value-decimal}
-use Rattle.std.proofs.lemmas.List.{length_push, length-append, get_or_push, take_at}
+use Rattle.std.proofs.lemmas.List.{length_push, get_or_push, take_at}
 use Rattle.std.proofs.lemmas.Bool.{lt-ltb, le-leb, and_from}
-use Rattle.script.specs.Format.{Cmd, memory, ring, bytes_at, kept, serve, anew, piece, Line, says, said, meaning, line, line_end, blank, lines, words, number, value, only, both, number_at, small, byte, before, row, address, laid, bytes_in, command, size_after, first, go_on, read_lines, read}
+use Rattle.script.specs.Format.{Cmd, memory, ring, bytes_at, kept, serve, anew, piece, says, said, meaning, line_end, blank, lines, words, number, value, only, both, small, byte, row, address, laid, size_after, first, go_on, read_lines}
 use Rattle.script.specs.Shown.{spaced, shown}
 use Rattle.script.specs.Laws.{Sound, Sounds, written, RoundTrip, WholeRoundTrip}
 use Rattle.script.proofs.Frees.{free, free_join, split_mark, words_mark, words_free, words_spaced, spaced_no_end, own, decimal_no_blank, decimal_no_end}

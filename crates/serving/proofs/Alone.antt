@@ -1,6 +1,6 @@
 -- A serving's reads and writes, over memory as it stands, are the serving that the plain definition says.
-use Rattle.std.proofs.Common.{◌≡◌, ℕ, zero, suc, ◌-◌, ◌<◌, ◌≤◌, Bool, true, false, cond, eqb, leb, ◌⊎◌, List, [], ◌∷◌, length, take, sym, refl, ap, ◌∙◌, subst, inl, inr, arith}
-use Rattle.std.proofs.lemmas.Bool.{cases_Bool, true≢false}
+use Rattle.std.proofs.Common.{◌≡◌, ℕ, zero, suc, ◌-◌, ◌<◌, ◌≤◌, Bool, true, false, cond, eqb, leb, List, length, take, sym, refl, ap, ◌∙◌, subst, inl, inr, arith}
+use Rattle.std.proofs.lemmas.Bool.{cases_Bool}
 use Rattle.vring.specs.Words.{word}
 use Rattle.vring.specs.Programs.{Prog, ret, get, then, pair, ends, leaves}
 use Rattle.vring.specs.Plain.{plain}
@@ -14,13 +14,12 @@ use Rattle.chains.proofs.Walks.{follows_plainly}
 use Rattle.transfer.specs.Requests.{request, request_prog}
 use Rattle.transfer.specs.Responses.{capacity, finish_prog, finished, Within}
 use Rattle.transfer.proofs.Plainly.{gathers_plainly, finishes_plainly}
-use Rattle.device.specs.Device.{Device, response, kept_after}
+use Rattle.device.specs.Device.{Device}
 use Rattle.device.proofs.Requests.{first_bytes}
-use Rattle.model.specs.Serving.{pending_by, pending, head, chain, regions, Look, nothing, halt, job, look_chain, offer, look, State, cut, device_after, halted, stop, done, act, serve, serve_times}
+use Rattle.model.specs.Serving.{pending_by, pending, head, chain, regions, Look, nothing, halt, job, look_chain, offer, look, State, cut, device_after, stop, done, act, serve, serve_times}
 use Rattle.model.specs.Promises.{Sound}
 use Rattle.model.proofs.Acts.{within_all}
-use Rattle.model.proofs.Rings.{Stands}
-use Rattle.model.proofs.Serves.{times_more, idle_stays, stays_stopped, serve_stopped, ring_stands, serve_sound, serve_length}
+use Rattle.model.proofs.Serves.{times_more, idle_stays, stays_stopped, ring_stands, serve_sound, serve_length}
 use Rattle.serving.specs.Turns.{take_prog, next_prog, look_prog, Turn, turned, act_prog, turn_prog, run_prog}
 use Rattle.serving.proofs.Turning.{Runs, turn_stopped, turn_looks, run_ends, run_more}
 

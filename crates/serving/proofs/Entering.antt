@@ -1,5 +1,5 @@
 -- What the entry for servings checks, and what it then promises.
-use Rattle.std.proofs.Common.{◌≡◌, ℕ, zero, suc, ◌+◌, ◌-◌, ◌%◌, ◌<◌, ◌≤◌, Bool, true, false, cond, ◌&&◌, eqb, ltb, leb, ◌⊎◌, List, [], ◌∷◌, length, get_or, sym, refl, ap, ◌∙◌, subst, ap₂, inl, inr, arith}
+use Rattle.std.proofs.Common.{◌≡◌, ℕ, suc, ◌+◌, ◌-◌, ◌%◌, ◌<◌, ◌≤◌, Bool, true, false, cond, ◌&&◌, eqb, ltb, leb, ◌⊎◌, List, length, get_or, sym, refl, ap, ◌∙◌, subst, ap₂, inl, inr, arith}
 use Rattle.std.proofs.lemmas.Bool.{cases_Bool, and_parts, ltb-true, eqb-true}
 use Rattle.vring.specs.Words.{word}
 use Rattle.vring.specs.Rings.{Ring, available_at, ring_ok, placed_ok}
@@ -9,7 +9,7 @@ use Rattle.model.specs.Promises.{Sound, waits}
 use Rattle.model.proofs.Serves.{stays_sound, stays_stopped, done_with}
 use Rattle.model.proofs.Asked.{as_asked}
 use Rattle.model.proofs.Tallies.{accounts}
-use Rattle.serving.specs.Entries.{state_ok, device_in, state_in, numbers_of, refusal, answer, Serves, Refuses, ServeSays, Promised}
+use Rattle.serving.specs.Entries.{state_ok, device_in, state_in, numbers_of, refusal, answer, Serves, ServeSays, Promised}
 use Rattle.serving.specs.declared.done.Done.{Done}
 use Rattle.serving.specs.declared.done.Done.TheVariants.{Served, Stopped, Refused}
 

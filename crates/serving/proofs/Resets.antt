@@ -1,8 +1,6 @@
 -- Two numbers that were set.
-use Rattle.std.proofs.Common.{◌≡◌, ℕ, ◌≤◌, true, List, [], ◌∷◌, length, set, refl, arith}
-use Rattle.vring.specs.Rings.{Ring, ring_ok}
-use Rattle.model.specs.Promises.{Sound}
-use Rattle.serving.specs.Entries.{state_in, Resets}
+use Rattle.std.proofs.Common.{◌≡◌, ℕ, List, [], ◌∷◌, length, set, refl, arith}
+use Rattle.serving.specs.Entries.{Resets}
 use Rattle.serving.specs.declared.done.Done.TheVariants.{Anew}
 
 pub two_set : (s : List ℕ) (a b : ℕ) → length s ≡ 2 → set (set s 0 a) 1 b ≡ a ∷ b ∷ []

@@ -1,16 +1,13 @@
 -- What a look finds, step by step as the code takes it.
-use Rattle.std.proofs.Common.{◌≡◌, ℕ, zero, suc, ◌+◌, ◌-◌, ◌*◌, ◌%◌, ◌<◌, ◌≤◌, Bool, true, false, cond, eqb, leb, ◌⊎◌, List, [], ◌∷◌, ◌++◌, length, get_or, sym, refl, ap, ◌∙◌, inl, inr, arith}
+use Rattle.std.proofs.Common.{◌≡◌, ℕ, ◌<◌, ◌≤◌, Bool, true, false, cond, eqb, leb, ◌⊎◌, List, [], ◌++◌, sym, refl, ap, ◌∙◌, inl, inr, arith}
 use Rattle.std.proofs.lemmas.Bool.{eq-eqb, ne_eqb, le-leb, lt-leb, true≢false}
-use Rattle.vring.specs.Programs.{Prog, ret, get, then, pair, Acts, ends, leaves}
+use Rattle.vring.specs.Programs.{ret, then, pair, Acts, ends, leaves}
 use Rattle.vring.specs.Rings.{Ring, available_at, head_at}
-use Rattle.vring.proofs.Binds.{ends_by, leaves_by, ends_get, leaves_get, ends_then, leaves_then}
+use Rattle.vring.proofs.Binds.{ends_by, leaves_by, ends_get, leaves_get}
 use Rattle.chains.specs.Chains.{Walk, bad, goes, chain_prog, listed, Follows}
-use Rattle.chains.specs.Laws.{AllFit}
 use Rattle.chains.specs.Usable.{usable}
 use Rattle.chains.specs.declared.descriptor.Descriptor.{Descriptor}
-use Rattle.chains.specs.declared.region.Region.{Region}
 use Rattle.transfer.specs.Requests.{request_prog}
-use Rattle.transfer.specs.Responses.{Within}
 use Rattle.model.specs.Serving.{pending_by, regions, Look, nothing, halt, job}
 use Rattle.transfer.specs.Requests.{held}
 use Rattle.serving.specs.Turns.{take_prog, next_prog, look_prog}

@@ -1,7 +1,7 @@
 -- Turns, step by step as the code takes them.
-use Rattle.std.proofs.Common.{◌≡◌, ℕ, zero, suc, ◌+◌, ◌-◌, ◌<◌, ◌≤◌, min, Bool, true, false, cond, List, [], ◌∷◌, length, take, sym, refl, ap, ◌∙◌, arith, rules}
+use Rattle.std.proofs.Common.{◌≡◌, ℕ, zero, suc, ◌-◌, ◌<◌, min, Bool, true, false, cond, List, take, sym, refl, ap, ◌∙◌, arith, rules}
 use Rattle.std.proofs.lemmas.List.{places, same_lists}
-use Rattle.vring.specs.Programs.{Prog, ret, then, Acts, ends, leaves}
+use Rattle.vring.specs.Programs.{ret, then, Acts, ends, leaves}
 use Rattle.vring.specs.Rings.{Ring}
 use Rattle.vring.proofs.Binds.{ends_by, leaves_by, ends_then, leaves_then}
 use Rattle.chains.specs.declared.descriptor.Descriptor.{Descriptor}

@@ -1,5 +1,5 @@
 -- What the code's look answers.
-use Rattle.std.specs.Prelude.{◌≡◌, ℕ}
+use Rattle.std.specs.Prelude.{◌≡◌}
 use Rattle.chains.specs.Chains.{listed}
 use Rattle.transfer.specs.Requests.{held}
 use Rattle.model.specs.Serving.{Look, nothing, halt, job}

@@ -1,5 +1,5 @@
 -- One serving and many, as programs of single reads and writes.
-use Rattle.std.specs.Prelude.{ℕ, zero, suc, Bool, true, false, cond, List, ◌==◌, nat_le}
+use Rattle.std.specs.Prelude.{ℕ, zero, suc, Bool, true, false, cond, ◌==◌, nat_le}
 use Rattle.vring.specs.Programs.{Prog, ret, get, then, pair}
 use Rattle.vring.specs.Rings.{Ring, available_at, head_at}
 use Rattle.chains.specs.Chains.{Walk, bad, goes, chain_prog}

@@ -1,10 +1,10 @@
 -- Steps of filling a response in.
-use Rattle.std.proofs.Common.{◌≡◌, ℕ, ◌+◌, ◌-◌, ◌<◌, ◌≤◌, min, Bool, true, false, cond, ◌⊎◌, List, [], ◌∷◌, ◌++◌, length, get_or, take, drop, sym, refl, ap, ◌∙◌, inl, inr, zero-add, arith}
+use Rattle.std.proofs.Common.{◌≡◌, ℕ, ◌+◌, ◌-◌, ◌<◌, ◌≤◌, min, true, false, List, length, get_or, take, drop, sym, refl, ◌∙◌, inl, inr, zero-add, arith}
 use Rattle.std.proofs.lemmas.List.{at_drop_more, at_drop_all, drop-drop, drop_all, take_all, length-drop}
 use Rattle.std.proofs.lemmas.Bool.{cases_lt}
 use Rattle.chains.specs.Descriptors.{writable}
 use Rattle.chains.specs.declared.descriptor.Descriptor.{Descriptor}
-use Rattle.vring.specs.Programs.{Prog, ret, then, put_bytes, Acts, ends, leaves}
+use Rattle.vring.specs.Programs.{put_bytes, Acts, leaves}
 use Rattle.transfer.specs.Responses.{capacity, fill_prog}
 use Rattle.vring.proofs.Binds.{leaves_by}
 

@@ -1,7 +1,7 @@
 -- Steps of gathering a request.
-use Rattle.std.proofs.Common.{◌≡◌, ℕ, zero, suc, ◌+◌, ◌-◌, ◌<◌, min, Bool, true, false, cond, List, [], ◌∷◌, ◌++◌, length, get_or, drop, sym, refl, ap, ◌∙◌, arith}
+use Rattle.std.proofs.Common.{◌≡◌, ℕ, zero, suc, ◌+◌, ◌-◌, ◌<◌, min, true, false, List, ◌∷◌, ◌++◌, length, get_or, drop, refl, ap, ◌∙◌, arith}
 use Rattle.std.proofs.lemmas.List.{at_drop_more}
-use Rattle.vring.specs.Programs.{Prog, ret, get, then, byte, get_bytes, Acts, ends, leaves}
+use Rattle.vring.specs.Programs.{ret, get, then, byte, get_bytes, Acts, ends, leaves}
 use Rattle.vring.proofs.Binds.{ends_then, leaves_then, ends_get, leaves_get, ends_by, leaves_by}
 use Rattle.chains.specs.Descriptors.{writable}
 use Rattle.chains.specs.declared.descriptor.Descriptor.{Descriptor}

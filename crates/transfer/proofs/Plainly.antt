@@ -1,9 +1,9 @@
 -- Gathering and finishing over memory as it stands.
-use Rattle.std.proofs.Common.{◌≡◌, ℕ, zero, suc, ◌+◌, ◌-◌, ◌*◌, ◌/◌, ◌%◌, ◌<◌, ◌≤◌, min, Bool, true, false, cond, ◌⊎◌, List, [], ◌∷◌, ◌++◌, length, get_or, take, drop, set, sym, refl, ap, ◌∙◌, ap₂, inl, inr, mod-lt, arith, rules}
+use Rattle.std.proofs.Common.{◌≡◌, ℕ, suc, ◌+◌, ◌-◌, ◌<◌, ◌≤◌, min, Bool, true, false, cond, List, [], ◌∷◌, ◌++◌, length, take, drop, sym, refl, ap, ◌∙◌, ap₂, inl, inr, mod-lt, arith, rules}
 use Rattle.std.proofs.lemmas.List.{places, same_lists, take_all, length-take}
 use Rattle.std.proofs.lemmas.Bool.{cases_Bool}
 use Rattle.vring.specs.Words.{two, set_bytes}
-use Rattle.vring.specs.Programs.{Prog, ret, get, put, then, ends, leaves, get_bytes, put_bytes, pair}
+use Rattle.vring.specs.Programs.{Prog, ret, then, leaves, get_bytes, put_bytes, pair}
 use Rattle.vring.specs.Rings.{Ring, used_at, ends_at, entry_at}
 use Rattle.vring.specs.Plain.{plain, plain_wrote}
 use Rattle.vring.proofs.Binds.{ends_then, leaves_then, ends_by, leaves_by}

@@ -1,8 +1,8 @@
 -- Bytes put into memory: where it changes, and how long it stays.
-use Rattle.std.proofs.Common.{◌≡◌, ℕ, zero, suc, ◌+◌, ◌-◌, ◌*◌, ◌/◌, ◌%◌, ◌<◌, ◌≤◌, ◌⊎◌, List, [], ◌∷◌, ◌++◌, length, get_or, take, drop, set, sym, refl, ap, ◌∙◌, inl, inr, arith, rules}
-use Rattle.std.proofs.lemmas.List.{places, same_lists, ext_get_or, length-append, length-take, length-drop, length-set, get_or-take, get_or-drop, get_or-set_same}
+use Rattle.std.proofs.Common.{◌≡◌, ℕ, suc, ◌+◌, ◌-◌, ◌/◌, ◌%◌, ◌<◌, ◌≤◌, ◌⊎◌, List, [], ◌∷◌, ◌++◌, length, get_or, set, refl, inl, inr, arith, rules}
+use Rattle.std.proofs.lemmas.List.{places, same_lists, length-append, length-take, length-drop, length-set, get_or-set_same}
 use Rattle.std.proofs.lemmas.Bool.{cases_lt, cases_eq}
-use Rattle.vring.specs.Words.{word, two, set_bytes}
+use Rattle.vring.specs.Words.{two, set_bytes}
 
 pub set_length : (m : List ℕ) (a : ℕ) (xs : List ℕ) → a + length xs ≤ length m → length (set_bytes m a xs) ≡ length m
 unfolding set_bytes

@@ -1,7 +1,7 @@
 -- The sizes of rings, by a test over all of them up to 64, and numbers that are written and read.
-use Rattle.std.proofs.Common.{◌≡◌, ℕ, zero, suc, ◌+◌, ◌-◌, ◌*◌, ◌/◌, ◌%◌, ◌<◌, ◌≤◌, Bool, true, false, not, ◌&&◌, ◌||◌, eqb, leb, ◌⊎◌, List, [], ◌∷◌, length, get_or, sym, refl, ap, ◌∙◌, inl, inr, arith}
-use Rattle.std.proofs.lemmas.Bool.{and_parts, or_cases, leb-true, eqb-true, eq-eqb, cases_eq}
-use Rattle.vring.specs.Words.{word, two, set_bytes}
+use Rattle.std.proofs.Common.{◌≡◌, ℕ, zero, suc, ◌+◌, ◌-◌, ◌/◌, ◌%◌, ◌≤◌, Bool, true, false, not, ◌&&◌, ◌||◌, eqb, leb, List, [], ◌∷◌, get_or, refl, ap, ◌∙◌, inl, inr, arith}
+use Rattle.std.proofs.lemmas.Bool.{and_parts, or_cases, leb-true, eqb-true, cases_eq}
+use Rattle.vring.specs.Words.{two, set_bytes}
 use Rattle.vring.specs.Rings.{size_ok}
 use Rattle.vring.specs.Laws.{OneOf, SizesMean, NumberStays}
 use Rattle.vring.proofs.Bytes.{set_inside, two_length}

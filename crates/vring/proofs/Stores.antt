@@ -1,10 +1,10 @@
 -- Programs over memory as it stands.
-use Rattle.std.proofs.Common.{◌≡◌, ℕ, zero, suc, ◌+◌, ◌≤◌, List, [], ◌∷◌, ◌++◌, length, get_or, take, drop, set, sym, refl, ap, ◌∙◌, add-one, arith, drop-cons}
+use Rattle.std.proofs.Common.{◌≡◌, ℕ, zero, suc, ◌+◌, ◌≤◌, List, [], ◌∷◌, length, get_or, take, drop, set, sym, refl, ap, ◌∙◌, add-one, arith, drop-cons}
 use borrow.Rule.Slice.PartMut.{put_mid}
 use denote.Ref.{at_last}
 use Rattle.std.proofs.lemmas.List.{drop-drop, length-set}
 use Rattle.vring.specs.Words.{set_bytes}
-use Rattle.vring.specs.Programs.{Prog, ret, get, put, then, byte, pair, Acts, ends, leaves, get_bytes, put_bytes}
+use Rattle.vring.specs.Programs.{Prog, ret, get, put, ends, leaves, get_bytes, put_bytes}
 use Rattle.vring.specs.Plain.{plain, plain_reads, plain_wrote, lent}
 use Rattle.vring.specs.declared.plain.Plain.{Plain}
 use Rattle.vring.proofs.Binds.{ends_then, leaves_then}

@@ -1,9 +1,9 @@
-use Rattle.std.proofs.Common.{◌≡◌, ◌+◌, ◌*◌, sym, refl, ap, ◌∙◌, arith}
+use Rattle.std.proofs.Common.{◌≡◌, ◌+◌, ◌*◌, ap, ◌∙◌, arith}
 use Rattle.std.proofs.lemmas.Bool.{both_ways}
 use Rattle.vring.specs.Words.{word}
 use Rattle.vring.specs.Rings.{Ring}
 use Rattle.serving.proofs.Parts.{There}
-use Rattle.capi.proofs.Parts.{Answers, answers_none, answers_there}
+use Rattle.capi.proofs.Parts.{answers_none, answers_there}
 use Rattle.capi.proofs.exports.dovrelzi_piece.Goals as goal
 
 pub returns-in_default : goal.returns-in_default

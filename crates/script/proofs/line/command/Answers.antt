@@ -1,4 +1,4 @@
-use Rattle.std.proofs.Common.{sym, ap, ◌∙◌}
+use Rattle.std.proofs.Common.{ap, ◌∙◌}
 use Rattle.script.specs.Format.{words, bytes_in}
 use Rattle.script.specs.Keywords.{by_keyword}
 use Rattle.script.proofs.Says.{keyword_says, not_bytes}

@@ -1,4 +1,4 @@
-use Rattle.std.proofs.Common.{◌≡◌, true, [], ◌∷◌, ◌++◌, map, is_ok, vec_items, sym, ap, ◌∙◌, arith, true-eqb}
+use Rattle.std.proofs.Common.{◌≡◌, map, is_ok, vec_items, sym, ap, ◌∙◌, arith, true-eqb}
 use Rattle.std.proofs.ResultArms.{chosen}
 use Rattle.std.proofs.lemmas.List.{map_push, nil_from_length}
 use Rattle.script.specs.Format.{lines, skipped, says, line}

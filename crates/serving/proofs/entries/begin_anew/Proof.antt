@@ -1,12 +1,12 @@
 -- `begin_anew` meets its contract, by hand: a walk of its code. The state is passed on to `reset` at its own lifetime, and nothing is lent again.
-use Rattle.std.proofs.Common.{◌≡◌, ℕ, ◌^◌, ◌<◌, List, [], ◌∷◌, length, sym, refl, ap, subst, MutBor}
+use Rattle.std.proofs.Common.{◌≡◌, ℕ, ◌^◌, ◌<◌, List, [], ◌∷◌, length, refl, MutBor}
 use seplogic.Ra.Ura.{Ura}
 use base.Logic.{SProp, ent, sep, emp, via, fst∗, id⊢}
 use base.Fml.{GName, Lft, Share, Fml, fsep, feq, ftrue, flft, fbor}
 use contract.Monad.{Fun, fact}
 use contract.Running.{tables, tables_of}
 use denote.Builtin.{u32}
-use denote.Laws.{Is, shows, Lawful}
+use denote.Laws.{Is, shows}
 use denote.Memory.{mem as in_memory}
 use denote.RattleType.{owns}
 use denote.Signature.{plain}
@@ -20,15 +20,15 @@ use denote.Triple.Statement.{Triple, Contract}
 use denote.Triple.Table.{entered}
 use denote.Triple.Walked.{says, Stays, gave_slice, walk_of, ends_at, walked, Goes-gave_slice, walk_Meets}
 use types.Logic.{Logic, sem}
-use mir.Syntax.{Fn, named}
+use mir.Syntax.{named}
 use mir.Val.{Val}
 use prog.Memory.{Memory}
 use prog.Routine.{Routine}
-use prog.Wp.{Env, Calls, Loops, WpFn, Tables}
+use prog.Wp.{WpFn, Tables}
 use sound.WpLaws.{WpFn-mono, fm_of}
-use types.ByLocal.{alloc_all, pass_all, free_all, look_at, look_in_at, get, get_in, sets, lands_as, env}
+use types.ByLocal.{alloc_all, pass_all, free_all, look_at, look_in_at, get, get_in, sets, lands_as}
 use types.Hole.{Holey}
-use types.Kit.{raw, some, later, await, pick, use1, ‵, ◌⊛◌, ◌$◌, ◌∵◌, !, qed, by, move, keep, drop, split, join, fsplit, fjoin, feq_l, suffices, frame, done}
+use types.Kit.{raw, some, later, await, pick, use1, ‵, ◌⊛◌, ◌$◌, ◌∵◌, !, qed, by, move, keep, split, join, fsplit, fjoin, feq_l, suffices, frame, done}
 use types.Part.{whole, sub, agg}
 use types.Run.{stop, fld, hop, from, addr, and_then, no_more, returns, enter}
 use types.SemTy.{Arr, Body as Borrowed}

@@ -1,4 +1,4 @@
-use Rattle.std.proofs.Common.{◌≡◌, ◌+◌, ◌-◌, ◌*◌, take, drop, sym, refl, ap, ◌∙◌, ap₂, arith}
+use Rattle.std.proofs.Common.{◌≡◌, ◌+◌, ◌-◌, ◌*◌, take, drop, ap, ◌∙◌, ap₂, arith}
 use Rattle.std.proofs.lemmas.Bool.{both_ways}
 use Rattle.vring.specs.Words.{word}
 use Rattle.vring.specs.Rings.{Ring}

@@ -1,11 +1,11 @@
-use Rattle.std.proofs.Common.{◌≡◌, length, sym, refl, ap, ◌∙◌, subst, ap₂, arith}
+use Rattle.std.proofs.Common.{sym, ap, subst}
 use Rattle.std.proofs.lemmas.Bool.{le-leb, lt-leb}
 use Rattle.vring.specs.Rings.{Ring}
 use Rattle.device.specs.Responds.{device_of}
 use Rattle.model.specs.Serving.{State}
 use Rattle.model.specs.Promises.{Sound}
 use Rattle.serving.specs.Entries.{state_in}
-use Rattle.serving.proofs.Entering.{refusal_ring, refusal_state, refusal_kept, refusal_times, refusal_none, refused, not_taken, taken, sound_in, two_numbers, promised, serves_in}
+use Rattle.serving.proofs.Entering.{refusal_ring, refusal_state, refusal_kept, refusal_times, refusal_none, refused, not_taken, taken, sound_in, promised, serves_in}
 use Rattle.serving.proofs.entries.serve.Goals as goal
 
 pub returns-in_default : goal.returns-in_default

@@ -1,4 +1,4 @@
-use Rattle.std.proofs.Common.{◌≡◌, refl, ap, ◌∙◌, rules}
+use Rattle.std.proofs.Common.{refl, ◌∙◌}
 use Rattle.serving.proofs.Resets.{two_set}
 use Rattle.serving.proofs.entries.write_state.Goals as goal
 use Rattle.serving.proofs.entries.write_state.Goals.{then-progress, else-progress}

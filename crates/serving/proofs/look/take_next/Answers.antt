@@ -1,12 +1,10 @@
-use Rattle.std.proofs.Common.{◌≡◌, true, false, [], ◌∷◌, length, sym, refl, ap, ◌∙◌, subst, ap₂, inl, inr, rules}
-use Rattle.vring.specs.Programs.{pair, ends, leaves}
-use Rattle.vring.specs.Rings.{head_at}
+use Rattle.std.proofs.Common.{◌≡◌, false, [], ◌∷◌, sym, refl, ap, ◌∙◌, subst, ap₂, inr, rules}
+use Rattle.vring.specs.Programs.{ends, leaves}
 use Rattle.vring.specs.Layouts.{ring_of}
 use Rattle.vring.specs.declared.layout.Layout.{Layout}
-use Rattle.chains.specs.Chains.{Walk, chain_prog, listed, Follows}
+use Rattle.chains.specs.Chains.{chain_prog, listed, Follows}
 use Rattle.chains.specs.Usable.{usable}
 use Rattle.chains.proofs.Meanings.{all_fit}
-use Rattle.model.specs.Serving.{regions}
 use Rattle.model.proofs.Acts.{within_all}
 use Rattle.serving.proofs.Sights.{walk_bad, walk_good, next_bad, next_unusable, next_ready, not_ready, sees_halt, sees_ready}
 use Rattle.serving.proofs.look.take_next.Goals as goal

@@ -1,10 +1,8 @@
-use Rattle.std.proofs.Common.{◌≡◌, ℕ, ◌+◌, ◌-◌, ◌%◌, min, Bool, false, List, length, take, sym, refl, ap, ◌∙◌, arith}
+use Rattle.std.proofs.Common.{◌≡◌, ◌-◌, min, take, ap, ◌∙◌, arith}
 use Rattle.vring.specs.Programs.{leaves}
 use Rattle.vring.specs.Layouts.{ring_of}
 use Rattle.chains.specs.Chains.{listed}
-use Rattle.transfer.specs.Requests.{held}
 use Rattle.transfer.specs.Responses.{capacity, finish_prog}
-use Rattle.device.specs.Device.{Device, response}
 use Rattle.model.specs.Serving.{cut}
 use Rattle.serving.proofs.Turning.{cut_bytes, same_device}
 use Rattle.serving.proofs.turn.complete.Goals as goal

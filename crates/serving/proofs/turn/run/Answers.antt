@@ -1,4 +1,4 @@
-use Rattle.std.proofs.Common.{◌≡◌, true, false, sym, refl, ◌∙◌, subst, arith}
+use Rattle.std.proofs.Common.{true, false, sym, refl, ◌∙◌, subst, arith}
 use Rattle.vring.specs.Layouts.{ring_of}
 use Rattle.device.specs.Responds.{device_of}
 use Rattle.serving.proofs.Turning.{Turns, run_none, run_ends, run_more}

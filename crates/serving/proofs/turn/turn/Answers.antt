@@ -1,4 +1,4 @@
-use Rattle.std.proofs.Common.{◌≡◌, ◌≤◌, sym, refl, ap, ◌∙◌, subst}
+use Rattle.std.proofs.Common.{◌≤◌, sym, refl, subst}
 use Rattle.vring.specs.Rings.{ends_at}
 use Rattle.vring.specs.Layouts.{ring_of}
 use Rattle.chains.specs.Chains.{listed}

@@ -1,6 +1,6 @@
-use Rattle.std.proofs.Common.{◌≡◌, ◌+◌, ◌-◌, [], ◌∷◌, ◌++◌, sym, refl, ap, ◌∙◌, subst, append_assoc, append-nil, arith, rules}
+use Rattle.std.proofs.Common.{◌+◌, ◌-◌, [], ◌∷◌, ◌++◌, sym, refl, ap, ◌∙◌, append_assoc, append-nil, arith}
 use Rattle.transfer.specs.Requests.{held}
-use Rattle.vring.specs.Programs.{get_bytes, ends, leaves}
+use Rattle.vring.specs.Programs.{get_bytes, ends}
 use Rattle.transfer.proofs.Gathers.{byte_more}
 use Rattle.transfer.proofs.gather.+take_bytes.Goals as goal
 

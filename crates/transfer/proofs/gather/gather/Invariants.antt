@@ -1,4 +1,4 @@
-use Rattle.std.proofs.Common.{◌≡◌, ◌-◌, ◌≤◌, ◌++◌, length, drop}
+use Rattle.std.proofs.Common.{◌≡◌, ◌-◌, ◌++◌, drop}
 use Rattle.transfer.specs.Requests.{held}
 use Rattle.vring.specs.Programs.{ends, leaves}
 use Rattle.transfer.specs.Requests.{request_prog}

@@ -1,4 +1,4 @@
-use Rattle.std.proofs.Common.{sym, refl, ◌∙◌}
+use Rattle.std.proofs.Common.{sym, ◌∙◌}
 use Rattle.chains.proofs.Passes.{usable_outside, usable_writes, usable_reads, usable_late, usable_end}
 use Rattle.chains.proofs.chain.Chain.is_usable.Goals as goal
 use Rattle.chains.proofs.chain.Chain.is_usable.Goals.{then-is_writable, else-is_writable+else-written}

@@ -1,8 +1,8 @@
-use Rattle.std.proofs.Common.{◌≡◌, ◌++◌, map, drop, Err, string_bytes, sym, refl, ap, ◌∙◌, subst, append-nil}
+use Rattle.std.proofs.Common.{◌++◌, Err, string_bytes, sym, ap, ◌∙◌, subst, append-nil}
 use Rattle.script.specs.Commands.{cmd_of}
 use Rattle.machine.specs.Bench.{bench_of}
 use Rattle.machine.specs.Steps.{step}
-use Rattle.machine.specs.Runs.{run, Ran, Went, Steps}
+use Rattle.machine.specs.Runs.{Ran, Went, Steps}
 use Rattle.machine.proofs.Running.{run_went, run_ended, run_end, runs_alike}
 use Rattle.machine.proofs.machine.Machine.run.Goals as goal
 

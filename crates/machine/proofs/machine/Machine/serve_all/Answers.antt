@@ -1,4 +1,4 @@
-use Rattle.std.proofs.Common.{◌≡◌, length, refl, arith, rules}
+use Rattle.std.proofs.Common.{◌≡◌, length, refl, arith}
 use Rattle.std.proofs.lemmas.List.{with_items_is}
 use Rattle.machine.proofs.Entering.{two_of, says_on}
 use Rattle.machine.proofs.machine.Machine.serve_all.Goals as goal

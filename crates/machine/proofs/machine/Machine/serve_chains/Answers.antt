@@ -1,4 +1,4 @@
-use Rattle.std.proofs.Common.{◌≡◌, ◌++◌, string_bytes, codes, sym, ap, ◌∙◌, ap₂}
+use Rattle.std.proofs.Common.{◌++◌, string_bytes, codes, ◌∙◌, ap₂}
 use Rattle.machine.specs.Bench.{bench_of}
 use Rattle.machine.specs.Steps.{changes}
 use Rattle.machine.proofs.Steps.{served_went}

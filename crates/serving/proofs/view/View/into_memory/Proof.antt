@@ -28,9 +28,9 @@ use mir.Syntax.{Fn, named, a_type}
 use mir.Val.{Val, vint, vptr, vstruct, vnil, vcons}
 use prog.Memory.{Memory}
 use prog.Routine.{Routine}
-use prog.Wp.{Env, Calls, Loops, WpFn, Tables}
+use prog.Wp.{Calls, Loops, WpFn, Tables}
 use sound.WpLaws.{WpFn-mono}
-use types.ByLocal.{alloc_all, pass_all, free_all, look_at, look_in_at, sets, env}
+use types.ByLocal.{alloc_all, pass_all, free_all, look_at, look_in_at, sets}
 use types.Kit.{Item, Step, step, prop, raw, ‵, ◌⊛◌, ◌$◌, ◌∵◌, !, qed, by, move, keep, drop, split, split3, join, fsplit, fsplit3, fpick, feq_l, feq_i, fjoin, fjoin3, suffices, updating, now as at_once, done}
 use types.Part.{whole, sub}
 use types.Run.{stop, fld, addr, hop, from, returns, enter}

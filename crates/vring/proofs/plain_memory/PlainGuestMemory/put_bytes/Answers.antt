@@ -1,5 +1,5 @@
 -- The middle part that was lent on holds the bytes, which is what the row of single writes leaves.
-use Rattle.std.proofs.Common.{◌≡◌, length, sym, ap, ◌∙◌, arith}
+use Rattle.std.proofs.Common.{length, sym, ap, ◌∙◌, arith}
 use denote.Ref.{at_last}
 use Rattle.vring.specs.Programs.{put_bytes}
 use Rattle.vring.specs.declared.plain.Plain.{Plain}
