@@ -1,5 +1,6 @@
-# The library for C, its example, and the tests and measurements of it.
+# The program, the library for C, its example, and the tests and measurements of it.
 #
+#   make bin                     target/bin/dovrelzi, proved and built by rt
 #   make lib                     target/lib/libdovrelzi.a, proved and built by rt
 #   make install PREFIX=/usr     library and header below PREFIX
 #   make example                 builds and runs examples/c/example.c
@@ -9,20 +10,29 @@ CC ?= cc
 CFLAGS ?= -O2
 WARNINGS = -std=c11 -Wall -Wextra -Wpedantic -Werror
 
+bin := target/bin/dovrelzi
 lib := target/lib/libdovrelzi.a
 example := target/example/example
-sources := crates.txt $(shell find crates -name '*.rt' -o -name '*.antt')
+sources := crates.txt $(shell find crates -path '*/out' -prune -o \( -name '*.rt' -o -name '*.antt' \) -print)
 
-.PHONY: all lib install example harness clean
+.PHONY: all bin lib install example harness clean
 
-all: lib
+all: bin lib
+
+bin: $(bin)
+
+# rt builds a program when it runs it.
+$(bin): $(sources)
+	cd crates/dovrelzi && rt run -- --help >/dev/null
+	mkdir -p $(@D)
+	cp crates/dovrelzi/out/dovrelzi $@
 
 lib: $(lib)
 
 $(lib): $(sources)
-	rt staticlib capi
+	cd crates/capi && rt lib
 	mkdir -p $(@D)
-	cp target/staticlib/libcapi.a $@
+	cp crates/capi/out/libcapi.a $@
 
 install: $(lib)
 	install -d $(DESTDIR)$(PREFIX)/lib $(DESTDIR)$(PREFIX)/include
@@ -43,4 +53,4 @@ harness: $(lib)
 	cargo build --quiet --release --offline --manifest-path harness/Cargo.toml
 
 clean:
-	rm -rf target harness/target
+	rm -rf target harness/target crates/*/out
