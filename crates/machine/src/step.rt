@@ -2,7 +2,7 @@
 ghost use Rattle.std.specs.Prelude.{◌≡◌, ◌+◌, ◌<◌, ◌≤◌, [], IfOk, vec_len, string_bytes};
 ghost use Rattle.serving.specs.Entries.{refusal, ServeSays};
 ghost use Rattle.script.specs.Commands.{cmd_of};
-ghost use Rattle.script.specs.Format.{memory as a_memory, bytes_at, kept as some-kept, serve as some-servings, anew, piece as a_Piece};
+ghost use Rattle.script.specs.Format.{memory as a_memory, bytes_at, kept as some_kept, serve as some_servings, anew, piece as a_Piece};
 ghost use Rattle.machine.specs.Bench.{bench_of};
 ghost use Rattle.machine.specs.Steps.{counted, step};
 ghost use Rattle.machine.specs.Runs.{Steps};
@@ -65,7 +65,7 @@ impl Machine {
 
     // The device keeps `n` bytes.
     fn set_kept(&mut self, heap: Global, n: u64) -> Result<(), Halt>
-        ensures { Steps result (step (some-kept n) (bench_of self.old)) (bench_of self.old) (bench_of self.new) [] [] }
+        ensures { Steps result (step (some_kept n) (bench_of self.old)) (bench_of self.old) (bench_of self.new) [] [] }
     {
         if n > 4096 {
             return Err(Halt::Refused(Refusal::Kept(n)));
@@ -97,7 +97,7 @@ impl Machine {
 
     // At most `times` servings; what changed and what is answered is printed.
     fn serve_chains(&mut self, heap: Global, times: u64, out: &mut String) -> Result<(), Halt>
-        ensures { Steps result (step (some-servings times) (bench_of self.old)) (bench_of self.old) (bench_of self.new) (string_bytes out.old) (string_bytes out.new) }
+        ensures { Steps result (step (some_servings times) (bench_of self.old)) (bench_of self.old) (bench_of self.new) (string_bytes out.old) (string_bytes out.new) }
     {
         let memory = copy_of(heap, &self.memory)?;
         let kept = copy_of(heap, &self.kept)?;

@@ -1,6 +1,6 @@
 // What happened, as text: each function writes one line.
 ghost use Rattle.std.specs.Prelude.{◌≡◌, ◌++◌, Some, None, string_bytes, codes, OnOk};
-ghost use Rattle.report.specs.Lines.{change, waiting as waiting-line, piece_of, refused as refused-line};
+ghost use Rattle.report.specs.Lines.{change, waiting as waiting_line, piece_of, refused as refused_line};
 ghost use Rattle.report.specs.Stores.{name_of};
 
 use crate::store::Store;
@@ -20,7 +20,7 @@ pub fn changed(out: &mut String, store: Store, at: u64, before: u8, after: u8) -
 
 // Writes how many chains wait: `waiting 3`.
 pub fn waiting(out: &mut String, n: u64) -> fmt::Result
-    ensures { OnOk result (string_bytes out.new ≡ string_bytes out.old ++ waiting-line n) }
+    ensures { OnOk result (string_bytes out.new ≡ string_bytes out.old ++ waiting_line n) }
 {
     writeln!(out, "waiting {n}")?;
     Ok(())
@@ -62,7 +62,7 @@ pub fn no_piece(out: &mut String, n: u64) -> fmt::Result
 
 // Writes that something was refused at a place: `refused 1 at 2`.
 pub fn refused(out: &mut String, what: u64, at: u64) -> fmt::Result
-    ensures { OnOk result (string_bytes out.new ≡ string_bytes out.old ++ refused-line what at) }
+    ensures { OnOk result (string_bytes out.new ≡ string_bytes out.old ++ refused_line what at) }
 {
     writeln!(out, "refused {what} at {at}")?;
     Ok(())

@@ -1,7 +1,7 @@
 -- What is read has numbers below 2^64, and bytes below 256 that lie in memory.
 use Rattle.std.proofs.Common.{ℕ, ◌+◌, ◌-◌, ◌^◌, ◌<◌, ◌&&◌, eqb, ltb, leb, List, [], ◌∷◌, length, get_or, take, Some, None, Ok, Err, codes, Option, Result, subst, arith}
 use Rattle.std.specs.Option.{option_map}
-use Rattle.std.specs.List.{AllByRecursion as All}
+use Rattle.std.specs.List.{AllByRecursion}
 use Rattle.std.specs.Str.{all_ascii_digits, bytes_eq}
 use Rattle.std.proofs.lemmas.Bool.{and_parts, cond_both, ltb-true, leb-true}
 use Rattle.script.specs.Format.{Cmd, memory, ring, bytes_at, kept, serve, anew, piece, Line, skipped, says, unreadable, said, meaning, line, lines, words, number, value, only, both, number_at, small, byte, before, row, address, laid, bytes_in, alone, command, size_after, first, go_on, read_lines}
@@ -42,12 +42,12 @@ small_of : (o : Option ℕ) → Of (λ b. b < 256) (small o)
 small_of None = tt
 small_of (Some n) = cond_both (leb n 255) (Some n) None (Of (λ b. b < 256)) (λ e. omega (arith, leb-true n 255 e)) (λ _. tt)
 
-before_of : (o : Option ℕ) (q : Option (List ℕ)) → Of (λ b. b < 256) o → Of (All (λ b. b < 256)) q → Of (All (λ b. b < 256)) (before o q)
+before_of : (o : Option ℕ) (q : Option (List ℕ)) → Of (λ b. b < 256) o → Of (AllByRecursion (λ b. b < 256)) q → Of (AllByRecursion (λ b. b < 256)) (before o q)
 before_of None q a b = tt
 before_of (Some x) None a b = tt
 before_of (Some x) (Some xs) a b = (a, b)
 
-row_of : (ws : List (List ℕ)) → Of (All (λ b. b < 256)) (row ws)
+row_of : (ws : List (List ℕ)) → Of (AllByRecursion (λ b. b < 256)) (row ws)
 row_of [] = tt
 row_of (w ∷ ws) = before_of (byte w) (row ws) (small_of (number w)) (row_of ws)
 
@@ -66,14 +66,14 @@ module _ (size : ℕ) where
   alone_sound [] = tt
   alone_sound (w ∷ ws) = tt
 
-  laid_sound : (o : Option (ℕ × List ℕ)) → Of (λ p. Below p.0 × All (λ b. b < 256) p.1) o → Of (Sound size) (laid size o)
+  laid_sound : (o : Option (ℕ × List ℕ)) → Of (λ p. Below p.0 × AllByRecursion (λ b. b < 256) p.1) o → Of (Sound size) (laid size o)
   laid_sound None a = tt
   laid_sound (Some (n, bs)) a =
       cond_both (leb (n + length bs) size) (Some (bytes_at n bs)) None (Of (Sound size)) (λ e. (a.0, a.1, leb-true (n + length bs) size e)) (λ _. tt)
 
   bytes_sound : (ws : List (List ℕ)) → Of (Sound size) (bytes_in size ws)
   bytes_sound [] = tt
-  bytes_sound (w ∷ ws) = laid_sound (both (address w) (row ws)) (both_of Below (All (λ b. b < 256)) (address w) (row ws) (address_below w) (row_of ws))
+  bytes_sound (w ∷ ws) = laid_sound (both (address w) (row ws)) (both_of Below (AllByRecursion (λ b. b < 256)) (address w) (row ws) (address_below w) (row_of ws))
 
   command_sound : (w : List ℕ) (ws : List (List ℕ)) → Of (Sound size) (command size w ws)
   command_sound w ws =

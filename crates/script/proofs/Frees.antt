@@ -1,7 +1,7 @@
 -- Texts without marks, and how they are split again.
 use Rattle.std.proofs.Common.{◌≡◌, ℕ, ◌^◌, ◌<◌, Bool, true, false, not, ◌&&◌, List, [], ◌∷◌, ◌++◌, map, length, decimal, refl, ap, ◌∙◌, append-nil, arith, rules}
 use Rattle.std.specs.Char.{is_ascii_digit}
-use Rattle.std.specs.List.{AllByRecursion as All}
+use Rattle.std.specs.List.{AllByRecursion}
 use Rattle.std.specs.Str.{all_ascii_digits}
 use Rattle.std.proofs.lemmas.Fmt.{decimal_nonempty, digits_decimal}
 use Rattle.std.proofs.lemmas.Str.Parse.{IsNumeralModel, numerals_by_fold}
@@ -65,12 +65,12 @@ pub decimal_no_end : (n : ℕ) → n < 2 ^ 64 → free line_end (decimal n) ≡ 
 decimal_no_end n h = digits_free line_end (λ b e. (digit_free b e).1) (decimal n) (digits_decimal own n h)
 
 -- the words of numbers with spaces before them, behind a word
-pub words_spaced : (w : List ℕ) (ns : List ℕ) → free blank w ≡ true → 0 < length w → All (λ n. n < 256) ns → words (w ++ spaced ns) ≡ w ∷ map decimal ns
+pub words_spaced : (w : List ℕ) (ns : List ℕ) → free blank w ≡ true → 0 < length w → AllByRecursion (λ n. n < 256) ns → words (w ++ spaced ns) ≡ w ∷ map decimal ns
 words_spaced w [] f l a = ap words (append-nil w) ∙ words_free w f l
 words_spaced w (n ∷ ns) f l a =
     let s : n < 2 ^ 64 = omega (arith, a.0) in
     words_mark w (decimal n ++ spaced ns) f l ∙ ap (λ v. w ∷ v) (words_spaced (decimal n) ns (decimal_no_blank n s) (decimal_nonempty n s) a.1)
 
-pub spaced_no_end : (ns : List ℕ) → All (λ n. n < 256) ns → free line_end (spaced ns) ≡ true
+pub spaced_no_end : (ns : List ℕ) → AllByRecursion (λ n. n < 256) ns → free line_end (spaced ns) ≡ true
 spaced_no_end [] a = refl
 spaced_no_end (n ∷ ns) a = free_join line_end (decimal n) (spaced ns) (decimal_no_end n (omega (arith, a.0))) (spaced_no_end ns a.1)

@@ -1,7 +1,7 @@
 -- What is written is read again.
 use Rattle.std.proofs.Common.{◌≡◌, ℕ, ◌+◌, ◌-◌, ◌^◌, ◌<◌, ◌≤◌, true, cond, eqb, ltb, List, [], ◌∷◌, ◌++◌, map, length, get_or, take, Some, None, Ok, codes, decimal, sym, refl, ap, ◌∙◌, append_assoc, arith}
 use Rattle.std.specs.Option.{option_map}
-use Rattle.std.specs.List.{AllByRecursion as All}
+use Rattle.std.specs.List.{AllByRecursion}
 use Rattle.std.specs.Str.{all_ascii_digits}
 use Rattle.std.proofs.lemmas.Fmt.{decimal_nonempty, digits_decimal, digits_value-decimal}
 use Rattle.std.proofs.lemmas.List.{length_push, get_or_push, take_at}
@@ -24,7 +24,7 @@ number_back n h =
 byte_back : (n : ℕ) → n < 256 → byte (decimal n) ≡ Some n
 byte_back n h = ap small (number_back n (omega arith)) ∙ rw (le-leb n 255 (omega arith)) refl
 
-row_back : (ns : List ℕ) → All (λ n. n < 256) ns → row (map decimal ns) ≡ Some ns
+row_back : (ns : List ℕ) → AllByRecursion (λ n. n < 256) ns → row (map decimal ns) ≡ Some ns
 row_back [] a = refl
 row_back (n ∷ ns) a = rw (byte_back n a.0, row_back ns a.1) refl
 
@@ -52,7 +52,7 @@ ring_words s b hs hb =
     ∙ ap (λ v. codes "ring" ∷ v) (words_mark (decimal s) (codes "at " ++ decimal b) (decimal_no_blank s hs) (decimal_nonempty s hs)
     ∙ ap (λ v. decimal s ∷ v) (named (codes "at") b refl (omega arith) hb))
 
-bytes_words : (a : ℕ) (bs : List ℕ) → a < 2 ^ 64 → All (λ b. b < 256) bs → words (shown (bytes_at a bs)) ≡ codes "bytes" ∷ (decimal a ++ (58 ∷ [])) ∷ map decimal bs
+bytes_words : (a : ℕ) (bs : List ℕ) → a < 2 ^ 64 → AllByRecursion (λ b. b < 256) bs → words (shown (bytes_at a bs)) ≡ codes "bytes" ∷ (decimal a ++ (58 ∷ [])) ∷ map decimal bs
 bytes_words a bs h u =
     let w = decimal a ++ (58 ∷ []) in
     let f : free blank w ≡ true = free_join blank (decimal a) (58 ∷ []) (decimal_no_blank a h) refl in

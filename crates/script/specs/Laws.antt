@@ -1,6 +1,6 @@
 -- What is written is read again.
 use Rattle.std.specs.Prelude.{◌≡◌, ℕ, ◌+◌, ◌^◌, ◌<◌, ◌≤◌, List, [], ◌∷◌, ◌++◌, length, Ok}
-use Rattle.std.specs.List.{AllByRecursion as All}
+use Rattle.std.specs.List.{AllByRecursion}
 use Rattle.script.specs.Format.{Cmd, memory, ring, bytes_at, kept, serve, anew, piece, says, line, size_after, read}
 use Rattle.script.specs.Shown.{shown}
 
@@ -8,7 +8,7 @@ use Rattle.script.specs.Shown.{shown}
 abbrev pub Sound : (size : ℕ) → Cmd → Type 0
 Sound size (memory n) = n < 2 ^ 64
 Sound size (ring places base) = (places < 2 ^ 64) × (base < 2 ^ 64)
-Sound size (bytes_at at bytes) = (at < 2 ^ 64) × All (λ b. b < 256) bytes × (at + length bytes ≤ size)
+Sound size (bytes_at at bytes) = (at < 2 ^ 64) × AllByRecursion (λ b. b < 256) bytes × (at + length bytes ≤ size)
 Sound size (kept n) = n < 2 ^ 64
 Sound size (serve n) = n < 2 ^ 64
 Sound size anew = Unit {0}

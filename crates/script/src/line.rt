@@ -1,7 +1,7 @@
 // What one line of a script says.
 ghost use Rattle.std.specs.Prelude.{◌≡◌, IfOk, Some, None, vec_items, ◌==◌, slice_index};
 ghost use Rattle.std.specs.Option.{option_map};
-ghost use Rattle.script.specs.Format.{words, byte as byte_of, row as row_of, laid as Laid-of, bytes_in, address as address-of, only as Only-of, alone, anew as anew-cmd, number_at as numbers-at, command as command-of, line as Line-of};
+ghost use Rattle.script.specs.Format.{words, byte as byte_of, row as row_of, laid as laid_of, bytes_in, address as address_of, only as only_of, alone, anew as anew_cmd, number_at as numbers_at, command as command_of, line as line_of};
 ghost use Rattle.script.specs.Commands.{cmd_of, line_says};
 ghost use Rattle.script.specs.Keywords.{by_keyword};
 
@@ -15,7 +15,7 @@ use std::alloc::{AllocError, Global};
 
 // The number that a text writes with nothing else.
 fn only(text: &[u8]) -> Option<u64>
-    ensures { result ≡ Only-of (words text.now) }
+    ensures { result ≡ only_of (words text.now) }
 {
     let (word, rest) = first_word(text)?;
     if first_word(rest).is_some() {
@@ -26,7 +26,7 @@ fn only(text: &[u8]) -> Option<u64>
 
 // The two numbers around the word `at`.
 fn number_at(text: &[u8]) -> Option<(u64, u64)>
-    ensures { result ≡ numbers-at (words text.now) }
+    ensures { result ≡ numbers_at (words text.now) }
 {
     let (first, rest) = first_word(text)?;
     let (at, rest) = first_word(rest)?;
@@ -46,7 +46,7 @@ fn byte(word: &[u8]) -> Option<u8>
 
 // The number that a word writes before a colon.
 fn address(word: &[u8]) -> Option<u64>
-    ensures { result ≡ address-of word.now }
+    ensures { result ≡ address_of word.now }
 {
     match word {
         [digits @ .., b':'] => number(digits),
@@ -72,7 +72,7 @@ fn row(heap: Global, text: &[u8]) -> Result<Option<Vec<u8>>, AllocError>
 
 // The bytes from `at` on, if they lie in a memory of `size` bytes.
 fn laid(size: u64, at: u64, bytes: Vec<u8>) -> Option<Command>
-    ensures { option_map cmd_of result ≡ Laid-of size (Some (at, bytes.items)) }
+    ensures { option_map cmd_of result ≡ laid_of size (Some (at, bytes.items)) }
 {
     let len = bytes.len() as u64;
     if len <= size && at <= size - len {
@@ -98,7 +98,7 @@ fn bytes(heap: Global, size: u64, text: &[u8]) -> Result<Option<Command>, AllocE
 
 // A reset, if nothing follows.
 fn anew(text: &[u8]) -> Option<Command>
-    ensures { option_map cmd_of result ≡ alone anew-cmd (words text.now) }
+    ensures { option_map cmd_of result ≡ alone anew_cmd (words text.now) }
 {
     match first_word(text) {
         Some(_) => None,
@@ -126,7 +126,7 @@ fn numbered(keyword: Keyword, text: &[u8]) -> Option<Command>
 
 // The command that a word and the text behind it say.
 fn command(heap: Global, size: u64, word: &[u8], text: &[u8]) -> Result<Option<Command>, AllocError>
-    ensures { IfOk result (λ o. option_map cmd_of o ≡ command-of size word.now (words text.now)) }
+    ensures { IfOk result (λ o. option_map cmd_of o ≡ command_of size word.now (words text.now)) }
 {
     match Keyword::of(word) {
         Keyword::Bytes => bytes(heap, size, text),
@@ -146,7 +146,7 @@ fn is_comment(word: &[u8]) -> bool
 
 // What a line says, in a memory of `size` bytes.
 pub fn read_line(heap: Global, size: u64, line: &[u8]) -> Result<Said, AllocError>
-    ensures { IfOk result (λ s. line_says s ≡ Line-of size line.now) }
+    ensures { IfOk result (λ s. line_says s ≡ line_of size line.now) }
 {
     let Some((word, rest)) = first_word(line) else {
         return Ok(Said::Nothing);

@@ -42,7 +42,7 @@ use Rattle.serving.proofs.entries.begin_anew.Statement as stated
 use Rattle.serving.proofs.entries.begin_anew.Code as code
 use Rattle.serving.specs.contracts.entries.reset as reset·
 use Rattle.serving.proofs.entries.reset.Symbol as reset·sym
-use Rattle.serving.proofs.entries.reset.Met as reset-met
+use Rattle.serving.proofs.entries.reset.Met as reset_met
 
 abbrev stayed : Stays ended.signature.params ended.kept
 stayed = (gave_slice (0 ∷ []) tt (plain (λ _. u32)), tt)
@@ -108,4 +108,4 @@ begin_anew_spec 𝓤 𝓛 𝓜 𝓡 wired =
     let A = 𝓛.A in
     let 𝓣 : Tables 𝓤 𝓛.H = tables_of 𝓤 𝓛.H 𝓜 (tables 𝓤 𝓛.H 𝓜 𝓡 𝓡.env) in
     entered 𝓤 𝓛.H (triple_of 𝓛 ended.signature (closing 𝓛 ended (clauses 𝓛 𝓜.mem 𝓡.returns))) 𝓣.C 𝓣.Λ #self code.function (code.unfolded 𝓤 𝓛.H 𝓜 𝓡 wired)
-    (meets 𝓛 𝓜.mem 𝓡.returns 𝓣 (reset-met.met 𝓤 𝓛 𝓜 𝓡 (code.calls-serving::entries::reset 𝓡.env wired)))
+    (meets 𝓛 𝓜.mem 𝓡.returns 𝓣 (reset_met.met 𝓤 𝓛 𝓜 𝓡 (code.calls-serving::entries::reset 𝓡.env wired)))
