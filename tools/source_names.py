@@ -13,7 +13,7 @@ import sys
 TOKEN = re.compile(r"(?<![\w'-])[^\W\d][\w'₀-₉]*(?:-[\w'₀-₉]+)+")
 WORDS = set(
     "in_ok in_err in_default In_ok In_err In_default yielded_by slice_bounds offset_bounds overflow_add overflow_sub overflow_mul "
-    "overflow_shl overflow_cast overflow_step nonzero_div nonzero_rem invariant_of type_inv".split()
+    "overflow_shl overflow_cast overflow_step nonzero_div nonzero_rem invariant_of type_inv deref_mut from_residual".split()
 )
 LIBRARY = re.compile(r"^use (?:Rattle\.std|borrow|denote|lib|mathlib|Prim)\b.*\{(.*)\}")
 

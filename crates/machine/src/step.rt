@@ -2,7 +2,7 @@
 ghost use Rattle.std.specs.Prelude.{◌≡◌, ◌+◌, ◌<◌, ◌≤◌, [], IfOk, vec_len, string_bytes};
 ghost use Rattle.serving.specs.Entries.{refusal, ServeSays};
 ghost use Rattle.script.specs.Commands.{cmd_of};
-ghost use Rattle.script.specs.Format.{memory as a_memory, bytes_at, kept as some_kept, serve as some_servings, anew, piece as a_Piece};
+ghost use Rattle.script.specs.Format.{memory as a_memory, bytes_at, kept as some_kept, serve as some_servings, anew, piece as a_piece};
 ghost use Rattle.machine.specs.Bench.{bench_of};
 ghost use Rattle.machine.specs.Steps.{counted, step};
 ghost use Rattle.machine.specs.Runs.{Steps};
@@ -125,7 +125,7 @@ impl Machine {
 
     // The part of memory that a descriptor names is printed.
     fn show_piece(&self, i: u64, out: &mut String) -> Result<(), Halt>
-        ensures { Steps result (step (a_Piece i) (bench_of self.now)) (bench_of self.now) (bench_of self.now) (string_bytes out.old) (string_bytes out.new) }
+        ensures { Steps result (step (a_piece i) (bench_of self.now)) (bench_of self.now) (bench_of self.now) (string_bytes out.old) (string_bytes out.new) }
     {
         write_part(out, i, piece(self.places, self.begins, &self.memory, i))?;
         Ok(())

@@ -1,5 +1,5 @@
 -- What is promised of every memory, every state and every number of servings. Each statement is proved, and stands on a contract.
-use Rattle.std.specs.Prelude.{◌≡◌, ℕ, zero, suc, ◌+◌, ◌%◌, ◌<◌, ◌≤◌, true, false, ◌⊎◌, List, [], ◌∷◌, length, get_or, slice_index, slice_index_or}
+use Rattle.std.specs.Prelude.{◌≡◌, ℕ, zero, suc, ◌+◌, ◌%◌, ◌<◌, ◌≤◌, true, false, ◌⊎◌, List, [], ◌∷◌, length, slice_index, slice_index_or}
 use Rattle.vring.specs.Words.{word}
 use Rattle.vring.specs.Rings.{Ring, available_at, used_at, entry_at, ring_ok}
 use Rattle.chains.specs.Descriptors.{writable}
@@ -71,7 +71,7 @@ pub record Account (r : Ring) (b : State) (n : ℕ) (x : State) (js : List Job) 
   pub kept : x.device.kept ≡ kept_by b.device.kept js
   pub size : length x.memory ≡ length b.memory
   pub only_there : (a : ℕ) → (slice_index x.memory a ≡ slice_index b.memory a)
-      ⊎ ((k : ℕ) × (k < length js) × (InCount r a ⊎ (InEntry r (b.device.served + k) a ⊎ Writes (get_or js k no_job).chain a)))
+      ⊎ ((k : ℕ) × (k < length js) × (InCount r a ⊎ (InEntry r (b.device.served + k) a ⊎ Writes (slice_index_or js k no_job).chain a)))
 
 abbrev pub Accounts : Type 0
 Accounts = (r : Ring) (b : State) (n : ℕ) → Sound r b → (js : List Job) × Account r b n (serve_times n r b) js

@@ -45,8 +45,8 @@ fn serve_plain(
     kept: &mut [u8],
     times: u64,
 ) -> Done
-    requires { Sound (ring_of layout.now) (record { memory = memory.now; device = device_of progress.old kept.old }) }
-    ensures { Serves (ring_of layout.now) (record { memory = memory.entry.now; device = device_of progress.old kept.old }) times result memory.exit.now (numbers_of (device_of progress.new kept.new)) kept.new }
+    requires { Sound (ring_of layout.now) (record { memory = memory.old; device = device_of progress.old kept.old }) }
+    ensures { Serves (ring_of layout.now) (record { memory = memory.old; device = device_of progress.old kept.old }) times result memory.new (numbers_of (device_of progress.new kept.new)) kept.new }
 {
     let mut m = Plain { bytes: memory };
     let mut job = Job::new();
