@@ -1,6 +1,6 @@
 // What the entries answer.
 
-#[derive(Clone, Copy)]
+#[derive(Clone, Copy, Debug, PartialEq, Eq)]
 pub enum Done {
     // So many chains still wait.
     Served(u64),
