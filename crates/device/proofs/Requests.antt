@@ -1,7 +1,8 @@
 -- What the device's definitions mean.
-use Rattle.std.proofs.Common.{◌≡◌, ℕ, ◌+◌, ◌-◌, ◌*◌, ◌<◌, ◌≤◌, true, ◌&&◌, eqb, leb, ◌⊎◌, List, [], ◌∷◌, length, get_or, take, drop, sym, refl, ◌∙◌, inl, inr, arith}
+use Rattle.std.proofs.Common.{◌≡◌, ℕ, ◌+◌, ◌-◌, ◌*◌, ◌<◌, ◌≤◌, true, ◌⊎◌, List, [], ◌∷◌, length, get_or, take, drop, sym, refl, ◌∙◌, inl, inr, arith}
 use Rattle.std.proofs.lemmas.List.{length-take-le, length-drop, take_all}
-use Rattle.std.proofs.lemmas.Bool.{and_parts, leb-true, le-leb, eqb-true, cond_both, cases_Bool, cases_lt}
+use Rattle.std.proofs.lemmas.Bool.{le-leb, cond_both, cases_Bool, cases_lt}
+use Rattle.std.proofs.lemmas.Bool.Decides.{nat_tests}
 use Rattle.vring.specs.Words.{set_bytes}
 use Rattle.vring.proofs.Bytes.{set_length, set_where}
 use borrow.Rule.Slice.PartMut.{put_mid}
@@ -17,10 +18,7 @@ pub record Writing (k q : List ℕ) : Type 0 where
 
 pub writing : (k q : List ℕ) → is_write k q ≡ true → Writing k q
 unfolding is_write
-writing k q h =
-    let p = and_parts (eqb (length q) 18) (eqb (get_or q 0 0) 1 && leb (block_at q + 16) (length k)) h in
-    let s = and_parts (eqb (get_or q 0 0) 1) (leb (block_at q + 16) (length k)) p.1 in
-    record { long = eqb-true (length q) 18 p.0; first = eqb-true (get_or q 0 0) 1 s.0; inside = leb-true (block_at q + 16) (length k) s.1 }
+writing k q h = record { long = grind (arith, nat_tests); first = grind (arith, nat_tests); inside = grind (arith, nat_tests) }
 
 pub record Reading (k q : List ℕ) : Type 0 where
   pub long : length q ≡ 2
@@ -29,10 +27,7 @@ pub record Reading (k q : List ℕ) : Type 0 where
 
 pub reading : (k q : List ℕ) → is_read k q ≡ true → Reading k q
 unfolding is_read
-reading k q h =
-    let p = and_parts (eqb (length q) 2) (eqb (get_or q 0 0) 0 && leb (block_at q + 16) (length k)) h in
-    let s = and_parts (eqb (get_or q 0 0) 0) (leb (block_at q + 16) (length k)) p.1 in
-    record { long = eqb-true (length q) 2 p.0; first = eqb-true (get_or q 0 0) 0 s.0; inside = leb-true (block_at q + 16) (length k) s.1 }
+reading k q h = record { long = grind (arith, nat_tests); first = grind (arith, nat_tests); inside = grind (arith, nat_tests) }
 
 pub put_inside : (k q : List ℕ) → Writing k q → block_at q + length (drop 2 q) ≤ length k
 put_inside k q w = omega (arith, w.long, w.inside, length-drop 2 q)
