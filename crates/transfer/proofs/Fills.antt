@@ -1,11 +1,13 @@
 -- Steps of filling a response in.
-use Rattle.std.proofs.Common.{◌≡◌, ℕ, ◌+◌, ◌<◌, min, true, false, List, length, get_or, take, drop, sym, refl, ◌∙◌, inl, inr, arith}
+use Rattle.std.proofs.Common.{◌≡◌, ℕ, ◌+◌, ◌<◌, min, true, false, cond, List, [], ◌∷◌, length, get_or, take, drop, sym, refl, ap, ◌∙◌, inl, inr, arith}
+use Rattle.std.specs.List.{sum_by}
 use Rattle.std.proofs.lemmas.List.{at_drop_more, drop_all, take_all}
+use Rattle.std.proofs.lemmas.List.Sums.{sum_by-cons}
 use Rattle.std.proofs.lemmas.Bool.{cases_lt}
 use Rattle.chains.specs.Descriptors.{writable}
 use Rattle.chains.specs.declared.descriptor.Descriptor.{Descriptor}
 use Rattle.vring.specs.Programs.{put_bytes, Acts, leaves}
-use Rattle.transfer.specs.Responses.{fill_prog}
+use Rattle.transfer.specs.Responses.{capacity, fill_prog}
 use Rattle.vring.proofs.Binds.{leaves_by}
 
 module _ {M : Type 0} (acts : Acts M) (ds : List Descriptor) (i : ℕ) (d : Descriptor) (x : List ℕ) (m : M) (h : i < length ds) where
@@ -27,3 +29,9 @@ cut len a =
           let k : min len (length a) ≡ length a = omega arith in
           rw k (take_all (length a) a (omega arith) ∙ sym (take_all len a e), drop_all (length a) a (omega arith) ∙ sym (drop_all len a e))
     ]
+
+-- the capacity as a sum over the descriptors
+pub capacity_sum : (ds : List Descriptor) → sum_by (λ d. cond (writable d) d.len 0) ds ≡ capacity ds
+unfolding capacity
+capacity_sum [] = refl
+capacity_sum (d ∷ ds) = sum_by-cons _ d ds ∙ ap (λ n. cond (writable d) d.len 0 + n) (capacity_sum ds)

@@ -1,5 +1,5 @@
 -- Where a response goes, and how a chain is said to be used.
-use Rattle.std.specs.Prelude.{ℕ, ◌+◌, ◌%◌, ◌<◌, ◌≤◌, cond, List, [], ◌∷◌, ◌++◌, length, take, drop, slice_index_or, sum_by}
+use Rattle.std.specs.Prelude.{ℕ, ◌+◌, ◌%◌, ◌<◌, ◌≤◌, cond, List, [], ◌∷◌, ◌++◌, length, take, drop, slice_index_or}
 use Rattle.vring.specs.Words.{two, set_bytes}
 use Rattle.vring.specs.Programs.{Prog, ret, put, then, pair, put_bytes}
 use Rattle.vring.specs.Rings.{Ring, used_at, entry_at}
@@ -8,7 +8,8 @@ use Rattle.chains.specs.declared.descriptor.Descriptor.{Descriptor}
 
 -- the capacity: how long the writable descriptors are together
 unfoldable pub capacity : List Descriptor → ℕ
-capacity ds = sum_by (λ d. cond (writable d) d.len 0) ds
+capacity [] = 0
+capacity (d ∷ ds) = cond (writable d) d.len 0 + capacity ds
 
 -- memory with a response in the writable descriptors, in order; what finds no place is cut off
 unfoldable pub filled : List Descriptor → (response memory : List ℕ) → List ℕ

@@ -10,7 +10,6 @@ use vring::layout::Layout;
 use vring::memory::GuestMemory;
 
 // How many bytes a response may have.
-#[tactic(auto, unfolding(crate::specs::Responses::capacity))]
 pub fn capacity(chain: &Chain) -> usize
     ensures { result ≡ capacity chain.now }
 {
