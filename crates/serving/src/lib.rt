@@ -5,5 +5,6 @@ pub mod done;
 pub mod entries;
 pub mod job;
 pub mod look;
+pub mod part;
 pub mod turn;
 pub mod view;
