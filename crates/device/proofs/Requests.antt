@@ -1,9 +1,8 @@
 -- What the device's definitions mean.
 use Rattle.std.proofs.Common.{◌≡◌, ℕ, ◌+◌, ◌-◌, ◌*◌, ◌<◌, ◌≤◌, true, ◌⊎◌, List, [], ◌∷◌, length, get_or, take, drop, sym, refl, ◌∙◌, inl, inr, arith}
 use Rattle.std.proofs.lemmas.List.{length-take-le, length-drop, take_all}
-use Rattle.std.proofs.lemmas.Bool.{le-leb, cond_both, cases_Bool, cases_lt}
+use Rattle.std.proofs.lemmas.Bool.{le-leb, cases_Bool, cases_lt}
 use Rattle.std.proofs.lemmas.Bool.Decides.{nat_tests}
-use Rattle.vring.specs.Words.{set_bytes}
 use Rattle.vring.proofs.Bytes.{set_length, set_where}
 use borrow.Rule.Slice.PartMut.{put_mid}
 use Rattle.vring.proofs.Stores.{put_middle}
@@ -28,9 +27,6 @@ pub record Reading (k q : List ℕ) : Type 0 where
 pub reading : (k q : List ℕ) → is_read k q ≡ true → Reading k q
 unfolding is_read
 reading k q h = record { long = grind (arith, nat_tests); first = grind (arith, nat_tests); inside = grind (arith, nat_tests) }
-
-pub put_inside : (k q : List ℕ) → Writing k q → block_at q + length (drop 2 q) ≤ length k
-put_inside k q w = omega (arith, w.long, w.inside, length-drop 2 q)
 
 pub reads : Reads
 unfolding response kept_after is_read is_write
@@ -64,17 +60,12 @@ refuses k q h =
     ]
 
 pub kept_length : (k q : List ℕ) → length (kept_after k q) ≡ length k
-unfolding kept_after
-kept_length k q =
-    cond_both (is_write k q) (set_bytes k (block_at q) (drop 2 q)) k (λ v. length v ≡ length k)
-    (λ e. set_length k (block_at q) (drop 2 q) (put_inside k q (writing k q e))) (λ _. refl)
+unfolding kept_after is_write
+kept_length k q = grind (arith, nat_tests, set_length, length-drop {A = ℕ})
 
 kept_where : (k q : List ℕ) (a : ℕ) → (get_or (kept_after k q) a 0 ≡ get_or k a 0) ⊎ ((block_at q ≤ a) × (a < block_at q + 16))
-unfolding kept_after
-kept_where k q a =
-    cond_both (is_write k q) (set_bytes k (block_at q) (drop 2 q)) k (λ v. (get_or v a 0 ≡ get_or k a 0) ⊎ ((block_at q ≤ a) × (a < block_at q + 16)))
-    (λ e. let w = writing k q e in elim (set_where k (block_at q) (drop 2 q) a (put_inside k q w)) [ inl s ↦ inl s | inr s ↦ inr (s.0, omega (arith, s.1, w.long, length-drop 2 q)) ])
-    (λ _. inl refl)
+unfolding kept_after is_write
+kept_where k q a = grind (arith, nat_tests, set_where, length-drop {A = ℕ})
 
 pub keeps : Keeps
 keeps k q = (kept_length k q, kept_where k q)
@@ -99,4 +90,4 @@ pub put_block : (k q ys : List ℕ) (a n : ℕ) →
     length q ≡ 18 → get_or q 0 0 ≡ 1 → a ≡ block_at q → a + 16 ≤ length k → n ≡ 16 → ys ≡ take (length q - 2) (drop 2 q) → put_mid a n k ys ≡ kept_after k q
 unfolding kept_after is_write
 put_block k q ys a n l f e h m s =
-    rw (l, f, le-leb (block_at q + 16) (length k) (omega arith)) (rw e (put_middle k ys (drop 2 q) (block_at q) n (s ∙ take_all (length q - 2) (drop 2 q) (omega (arith, length-drop 2 q))) (omega (arith, length-drop 2 q))))
+    grind (arith, nat_tests, put_middle, take_all {A = ℕ}, length-drop {A = ℕ})

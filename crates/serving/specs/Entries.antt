@@ -1,11 +1,12 @@
 -- What the entries answer, and what they leave of what they are lent.
-use Rattle.std.specs.Prelude.{◌≡◌, ℕ, zero, suc, ◌+◌, ◌*◌, ◌≤◌, Bool, true, cond, ◌&&◌, ◌⊎◌, List, [], ◌∷◌, length, take, drop, ◌==◌, ◌≢◌, nat_le, nat_lt, slice_index}
+use Rattle.std.specs.Prelude.{◌≡◌, ℕ, zero, suc, ◌+◌, ◌*◌, ◌≤◌, Bool, true, cond, ◌&&◌, ◌⊎◌, List, [], ◌∷◌, length, take, drop, ◌==◌, ◌≢◌, nat_le, nat_lt, slice_index, Option, Some, None}
 use Rattle.vring.specs.Rings.{Ring, ring_ok, placed_ok}
 use Rattle.chains.specs.Descriptors.{descriptor_at}
 use Rattle.chains.specs.declared.descriptor.Descriptor.{Descriptor}
 use Rattle.device.specs.States.{state_ok, device_in, numbers_of}
 use Rattle.model.specs.Serving.{State, serve_times, reset}
 use Rattle.model.specs.Promises.{Sound, waits, Job, Account, Orderly, InOrder}
+use Rattle.serving.specs.declared.part.Part.{Part}
 use Rattle.serving.specs.declared.done.Done.{Done}
 use Rattle.serving.specs.declared.done.Done.TheVariants.{Served, Stopped, Anew, Refused}
 
@@ -73,3 +74,8 @@ part_ok r m i =
 -- the bytes that descriptor i names, or none
 unfoldable pub part : Ring → (memory : List ℕ) → (i : ℕ) → List ℕ
 part r m i = cond (part_ok r m i) (take (descriptor_at m (r.base + 8 * i)).len (drop (descriptor_at m (r.base + 8 * i)).addr m)) []
+
+-- where that part lies, if it is in memory
+abbrev pub part_place : Ring → (memory : List ℕ) → (i : ℕ) → Option Part
+part_place r m i =
+    cond (part_ok r m i) (Some (record { at = (descriptor_at m (r.base + 8 * i)).addr; len = (descriptor_at m (r.base + 8 * i)).len })) None

@@ -10,13 +10,13 @@ ghost use Rattle.serving.specs.Refusals.{said};
 
 use crate::done::Done;
 use crate::job::Job;
+use crate::part::part_of;
 use crate::refusal::Refusal;
 use crate::turn::run;
 use device::progress::Progress;
 use vring::layout::Layout;
 use vring::memory::GuestMemory;
 use vring::plain::Plain;
-use vring::words::word_at;
 
 // At most `times` servings of memory as it stands, from one state to the next, and what is answered then.
 fn serve_plain(
@@ -103,20 +103,13 @@ pub fn begin_anew(state: &mut [u32]) -> Done
 }
 
 // The part of memory that descriptor `at` names, or an empty one.
+#[tactic(auto, unfolding(crate::specs::Entries::part_ok, crate::specs::Entries::part))]
 pub fn piece<'a>(places: u64, begins: u64, memory: &'a [u8], at: u64) -> &'a [u8]
     ensures { result.now ≡ part (record { size = places; base = begins }) memory.now at }
 {
-    let Some(layout) = Layout::new(places, begins, memory.len()) else {
-        return &memory[0..0];
+    let Some(part) = part_of(places, begins, memory, at) else {
+        return &[];
     };
-    if at >= places {
-        return &memory[0..0];
-    }
-    let from = layout.base + 8 * at as usize;
-    let addr = word_at(memory, from) as usize;
-    let len = word_at(memory, from + 2) as usize;
-    if addr + len > memory.len() {
-        return &memory[0..0];
-    }
-    &memory[addr..addr + len]
+    let from = part.at as usize;
+    &memory[from..from + part.len as usize]
 }
