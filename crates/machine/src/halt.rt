@@ -1,8 +1,10 @@
 // Why a script's run ended early.
 ghost use Rattle.std.specs.Prelude.{◌≡◌};
+ghost use Rattle.machine.specs.Runs.{halt_of};
 ghost use Rattle.machine.specs.declared.halt.Halt.TheVariants.{NoMemory};
 
 use crate::refusal::Refusal;
+use script::fault::Fault;
 use std::alloc::AllocError;
 use std::fmt;
 
@@ -22,10 +24,30 @@ impl From<AllocError> for Halt {
     }
 }
 
+impl From<Fault> for Halt {
+    ghost from_gives = { λ fault r. r ≡ halt_of fault };
+
+    fn from(fault: Fault) -> Halt {
+        match fault {
+            Fault::Line(n) => Halt::Refused(Refusal::Line(n)),
+            Fault::NoMemory => Halt::NoMemory,
+        }
+    }
+}
+
 impl From<fmt::Error> for Halt {
     ghost from_gives = { λ _ r. r ≡ NoMemory };
 
     fn from(_: fmt::Error) -> Halt {
         Halt::NoMemory
+    }
+}
+
+impl fmt::Display for Halt {
+    fn fmt<W: fmt::Write>(&self, f: &mut fmt::Formatter<W>) -> fmt::Result {
+        match self {
+            Halt::Refused(refusal) => write!(f, "{refusal}"),
+            Halt::NoMemory => write!(f, "out of memory"),
+        }
     }
 }
