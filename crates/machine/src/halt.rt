@@ -7,12 +7,15 @@ use crate::refusal::Refusal;
 use script::fault::Fault;
 use std::alloc::AllocError;
 use std::fmt;
+use thiserror::Error;
 
-#[derive(Drop)]
+#[derive(Clone, Copy, Debug, PartialEq, Eq, Error)]
 pub enum Halt {
     // A command was refused.
+    #[error("{0}")]
     Refused(Refusal),
     // No memory is left to go on.
+    #[error("out of memory")]
     NoMemory,
 }
 
@@ -40,14 +43,5 @@ impl From<fmt::Error> for Halt {
 
     fn from(_: fmt::Error) -> Halt {
         Halt::NoMemory
-    }
-}
-
-impl fmt::Display for Halt {
-    fn fmt<W: fmt::Write>(&self, f: &mut fmt::Formatter<W>) -> fmt::Result {
-        match self {
-            Halt::Refused(refusal) => write!(f, "{refusal}"),
-            Halt::NoMemory => write!(f, "out of memory"),
-        }
     }
 }
