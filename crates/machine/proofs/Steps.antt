@@ -18,9 +18,8 @@ wrote b a xs m h e = rw (le-leb (a + length xs) (length b.memory) h) (ap (with_m
 
 same_bench : (b c : Bench) → b.memory ≡ c.memory → b.ring ≡ c.ring → b.state ≡ c.state → b.kept ≡ c.kept → b ≡ c
 same_bench b c e f g h =
-    ap (λ m. record { memory = m; ring = b.ring; state = b.state; kept = b.kept }) e
-    ∙ (ap {B = Bench} (λ r. record { memory = c.memory; ring = r; state = b.state; kept = b.kept }) f
-    ∙ (ap {B = Bench} (λ s. record { memory = c.memory; ring = c.ring; state = s; kept = b.kept }) g ∙ ap {B = Bench} (λ k. record { memory = c.memory; ring = c.ring; state = c.state; kept = k }) h))
+    let same : record { memory = b.memory; ring = b.ring; state = b.state; kept = b.kept } ≡ record { memory = c.memory; ring = c.ring; state = c.state; kept = c.kept } = cc in
+    same
 
 -- servings were not refused, and what they changed and answered was written
 pub served_went : (f n : ℕ) (b c : Bench) (d : Done) (out o₁ o₂ o₃ : List ℕ) → ServeSays f b.ring b.memory b.state b.kept n d c.memory c.state c.kept →

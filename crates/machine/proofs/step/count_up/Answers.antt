@@ -1,9 +1,7 @@
-use Rattle.std.proofs.Common.{◌≡◌, ◌%◌, vec_items, IfOk, sym, subst, rules, arith}
+use Rattle.std.proofs.Common.{◌%◌, rules, arith}
 use Rattle.std.proofs.lemmas.Iterator.{items_from_collect, YieldsList-from_range, YieldsList-from_map}
-use Rattle.machine.proofs.Prints.{counted_range}
 use Rattle.machine.proofs.step.count_up.Goals as goal
 
 pub returns : goal.returns
 returns c =
-    subst (λ xs. IfOk c.collect.result (λ v. vec_items v ≡ xs)) (sym (counted_range 0 c.args.n))
-    (items_from_collect _ c.collect.ensures.ran (YieldsList-from_map _ (λ i. i % 256) (YieldsList-from_range 0 c.args.n c.args.n (cc) (omega arith)) c.map.ensures.closure (λ x r q k. search rules)))
+    items_from_collect _ c.collect.ensures.ran (YieldsList-from_map _ (λ i. i % 256) (YieldsList-from_range 0 c.args.n c.args.n (cc) (omega arith)) c.map.ensures.closure (λ x r q k. search rules))
