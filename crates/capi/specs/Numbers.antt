@@ -1,10 +1,11 @@
 -- What the C functions answer, as numbers.
-use Rattle.std.specs.Prelude.{◌≡◌, ℕ, ◌+◌, ◌*◌, cond, List}
+use Rattle.std.specs.Prelude.{◌≡◌, ℕ, ◌+◌, ◌*◌, cond, List, Option, Some, None}
 use Rattle.vring.specs.Rings.{Ring}
 use Rattle.chains.specs.Descriptors.{descriptor_at}
 use Rattle.serving.specs.Entries.{state_in, refusal, ServeSays, Promised, AnewSays, part_ok}
 use Rattle.serving.specs.declared.done.Done.{Done}
 use Rattle.serving.specs.declared.done.Done.TheVariants.{Served, Stopped, Anew, Refused}
+use Rattle.serving.specs.declared.part.Part.{Part}
 use Rattle.capi.specs.declared.structs.DovrelziDone.{DovrelziDone}
 use Rattle.capi.specs.declared.structs.DovrelziPart.{DovrelziPart}
 
@@ -32,3 +33,8 @@ pub record AnewNumbers (s : List ℕ) (d : DovrelziDone) (s₁ : List ℕ) : Typ
 unfoldable pub part_numbers : Ring → (memory : List ℕ) → (i : ℕ) → DovrelziPart
 part_numbers r m i =
     cond (part_ok r m i) (record { present = 1; at = (descriptor_at m (r.base + 8 * i)).addr; len = (descriptor_at m (r.base + 8 * i)).len }) (record { present = 0; at = 0; len = 0 })
+
+-- a part's numbers, or three times 0 for none
+abbrev pub place_numbers : Option Part → DovrelziPart
+place_numbers (Some p) = record { present = 1; at = p.at; len = p.len }
+place_numbers None = record { present = 0; at = 0; len = 0 }

@@ -1,13 +1,11 @@
 // The functions that C calls. None asks anything of its arguments: what is wrong with them is refused.
-ghost use Rattle.std.specs.Prelude.{◌≡◌, ◌+◌, ◌*◌, ◌<◌, ◌≤◌, take, drop};
+ghost use Rattle.std.specs.Prelude.{◌≡◌, take, drop};
 ghost use Rattle.serving.specs.Entries.{part};
 ghost use Rattle.capi.specs.Numbers.{part_numbers, ServeNumbers, AnewNumbers};
 
-use crate::numbers::numbers_of;
 use crate::structs::{DovrelziDone, DovrelziPart};
 use serving::entries::{begin_anew, serve};
-use vring::layout::Layout;
-use vring::words::word_at;
+use serving::part::part_of;
 
 // Serves the chains of a ring of `places` descriptors that begins at `begins`, at most `times` of them.
 #[unsafe(no_mangle)]
@@ -21,7 +19,7 @@ pub extern "C" fn dovrelzi_serve(
 ) -> DovrelziDone
     ensures { ServeNumbers (record { size = places; base = begins }) memory.old state.old kept.old times result memory.new state.new kept.new }
 {
-    numbers_of(serve(places, begins, memory, state, kept, times))
+    DovrelziDone::from(serve(places, begins, memory, state, kept, times))
 }
 
 // Resets the device, whose contents stay.
@@ -29,41 +27,15 @@ pub extern "C" fn dovrelzi_serve(
 pub extern "C" fn dovrelzi_begin_anew(state: &mut [u32]) -> DovrelziDone
     ensures { AnewNumbers state.old result state.new }
 {
-    numbers_of(begin_anew(state))
-}
-
-// No part.
-fn no_part() -> DovrelziPart
-    ensures { result ≡ record { present = 0; at = 0; len = 0 } }
-{
-    DovrelziPart {
-        present: 0,
-        at: 0,
-        len: 0,
-    }
+    DovrelziDone::from(begin_anew(state))
 }
 
 // Where the part of memory lies that descriptor `at` names, if it does lie in memory.
 #[unsafe(no_mangle)]
+#[tactic(auto, unfolding(serving::specs::Entries::part, serving::specs::Entries::part_ok, crate::specs::Numbers::part_numbers))]
 pub extern "C" fn dovrelzi_piece(places: u64, begins: u64, memory: &[u8], at: u64) -> DovrelziPart
     ensures numbers { result ≡ part_numbers (record { size = places; base = begins }) memory.now at }
     ensures bytes { take result.len (drop result.at memory.now) ≡ part (record { size = places; base = begins }) memory.now at }
 {
-    let Some(layout) = Layout::new(places, begins, memory.len()) else {
-        return no_part();
-    };
-    if at >= places {
-        return no_part();
-    }
-    let from = layout.base + 8 * at as usize;
-    let addr = word_at(memory, from);
-    let len = word_at(memory, from + 2);
-    if addr as usize + len as usize > memory.len() {
-        return no_part();
-    }
-    DovrelziPart {
-        present: 1,
-        at: addr as u64,
-        len: len as u64,
-    }
+    DovrelziPart::from(part_of(places, begins, memory, at))
 }

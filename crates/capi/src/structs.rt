@@ -1,6 +1,6 @@
 // What goes out to C.
 
-// What serving or a reset answers: which case, and its number.
+// What serving or a reset answers: which case, and its number. The case is a number, since the C interface needs it.
 #[derive(Clone, Copy)]
 #[repr(C)]
 pub struct DovrelziDone {
@@ -8,7 +8,7 @@ pub struct DovrelziDone {
     pub value: u64,
 }
 
-// A part of memory: 1 if there is one, where it begins, and how many bytes it has.
+// A part of memory: 1 if there is one, where it begins, and how many bytes it has. The C interface needs the flag.
 #[derive(Clone, Copy)]
 #[repr(C)]
 pub struct DovrelziPart {

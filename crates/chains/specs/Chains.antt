@@ -1,9 +1,9 @@
 -- Chains of descriptors, in memory and as they are followed.
-use Rattle.std.specs.Prelude.{◌≡◌, ℕ, zero, suc, ◌+◌, ◌*◌, Bool, true, false, cond, List, [], ◌∷◌, ◌++◌, take, nat_lt}
+use Rattle.std.specs.Prelude.{◌≡◌, ℕ, zero, suc, ◌+◌, ◌*◌, cond, List, [], ◌∷◌, ◌++◌, nat_lt, Result, IsOk, IsErr}
 use Rattle.vring.specs.Programs.{Prog, ret, get, then, pair}
 use Rattle.chains.specs.Descriptors.{has_next, descriptor_at, next_at, descriptor_prog}
 use Rattle.chains.specs.declared.descriptor.Descriptor.{Descriptor}
-use Rattle.chains.specs.declared.chain.Chain.{Chain}
+use Rattle.chains.specs.declared.breach.Breach.{Breach}
 
 -- the descriptors of a chain in their order, or that the chain is bad
 pub data Walk : Type 0 where
@@ -35,11 +35,7 @@ chain_prog zero t n i = ret bad
 chain_prog (suc f) t n i =
     cond (nat_lt i n) (then (descriptor_prog (t + 8 * i)) (λ d. link_prog (t + 8 * i) d (λ j. chain_prog f t n j))) (ret bad)
 
--- the descriptors that a snapshot lists
-abbrev pub listed : Chain → List Descriptor
-listed c = take c.len c.at
-
--- what following answers: whether the chain is good, and then its descriptors stand behind those before
-abbrev pub Follows : Walk → (ok : Bool) → (before after : List Descriptor) → Type 0
-Follows bad ok before after = ok ≡ false
-Follows (goes ds) ok before after = (ok ≡ true) × (after ≡ before ++ ds)
+-- what following answers: an error if the chain is bad, else its descriptors stand behind those before
+abbrev pub Follows : Walk → Result (Unit {0}) Breach → (before after : List Descriptor) → Type 0
+Follows bad r before after = IsErr r
+Follows (goes ds) r before after = IsOk r × (after ≡ before ++ ds)

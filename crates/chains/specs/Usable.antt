@@ -1,13 +1,13 @@
 -- Which chains may be served.
 use Rattle.std.specs.Prelude.{ℕ, ◌+◌, Bool, true, cond, not, ◌&&◌, ◌||◌, List, [], ◌∷◌, nat_le}
+use Rattle.std.specs.List.{list_all}
 use Rattle.chains.specs.Descriptors.{writable}
 use Rattle.chains.specs.declared.descriptor.Descriptor.{Descriptor}
 use Rattle.chains.specs.declared.region.Region.{Region}
 
 -- a descriptor's part lies wholly before or wholly behind each region
 unfoldable pub clear : List Region → Descriptor → Bool
-clear [] d = true
-clear (g ∷ gs) d = (nat_le (d.addr + d.len) g.from || nat_le g.to d.addr) && clear gs d
+clear gs d = list_all (λ g. nat_le (d.addr + d.len) g.from || nat_le g.to d.addr) gs
 
 -- and in a memory of n bytes
 unfoldable pub fits : List Region → (n : ℕ) → Descriptor → Bool

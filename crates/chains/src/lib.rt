@@ -1,6 +1,7 @@
 // Descriptors and chains of them.
 #![tactic(auto)]
 
+pub mod breach;
 pub mod chain;
 pub mod descriptor;
 pub mod flags;

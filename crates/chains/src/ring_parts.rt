@@ -8,22 +8,25 @@ use crate::table::Table;
 use vring::layout::Layout;
 
 // The table of the ring's descriptors.
-pub fn table_of(layout: &Layout) -> Table
-    ensures at { result.at ≡ layout.now.base }
-    ensures count { result.count ≡ layout.now.size }
-{
-    Table {
-        at: layout.base,
-        count: layout.size,
+impl From<&Layout> for Table {
+    ghost from_gives = { λ l t. (t.at ≡ l.now.base) × (t.count ≡ l.now.size) };
+
+    fn from(layout: &Layout) -> Table {
+        Table {
+            at: layout.base,
+            count: layout.size,
+        }
     }
 }
 
 // All bytes of the ring, its last one too.
-pub fn region_of(layout: &Layout) -> Region
-    ensures { result ≡ record { from = layout.now.base; to = ends_at (ring_of layout.now) } }
-{
-    Region {
-        from: layout.base,
-        to: layout.ends_at(),
+impl From<&Layout> for Region {
+    ghost from_gives = { λ l g. g ≡ record { from = l.now.base; to = ends_at (ring_of l.now) } };
+
+    fn from(layout: &Layout) -> Region {
+        Region {
+            from: layout.base,
+            to: layout.ends_at(),
+        }
     }
 }

@@ -1,9 +1,11 @@
 -- What the device's definitions mean.
-use Rattle.std.proofs.Common.{◌≡◌, ℕ, ◌+◌, ◌*◌, ◌<◌, ◌≤◌, true, false, ◌&&◌, eqb, leb, ◌⊎◌, List, [], ◌∷◌, length, get_or, take, drop, sym, refl, ◌∙◌, inl, inr, arith, rules}
-use Rattle.std.proofs.lemmas.List.{places, same_lists, length-take-le, length-drop, get_or-take, take_all}
-use Rattle.std.proofs.lemmas.Bool.{and_parts, leb-true, le-leb, eqb-true, cond_both, cases_Bool, cases_lt, cases_eq, ne_eqb}
-use Rattle.vring.specs.Words.{set_bytes}
+use Rattle.std.proofs.Common.{◌≡◌, ℕ, ◌+◌, ◌-◌, ◌*◌, ◌<◌, ◌≤◌, true, ◌⊎◌, List, [], ◌∷◌, length, get_or, take, drop, sym, refl, ◌∙◌, inl, inr, arith}
+use Rattle.std.proofs.lemmas.List.{length-take-le, length-drop, take_all}
+use Rattle.std.proofs.lemmas.Bool.{le-leb, cases_Bool, cases_lt}
+use Rattle.std.proofs.lemmas.Bool.Decides.{nat_tests}
 use Rattle.vring.proofs.Bytes.{set_length, set_where}
+use borrow.Rule.Slice.PartMut.{put_mid}
+use Rattle.vring.proofs.Stores.{put_middle}
 use Rattle.device.specs.Device.{block_at, is_read, is_write, response, kept_after}
 use Rattle.device.specs.Laws.{Reads, Writes, Known, read, write, Refuses, Keeps, FirstBytes}
 
@@ -15,10 +17,7 @@ pub record Writing (k q : List ℕ) : Type 0 where
 
 pub writing : (k q : List ℕ) → is_write k q ≡ true → Writing k q
 unfolding is_write
-writing k q h =
-    let p = and_parts (eqb (length q) 18) (eqb (get_or q 0 0) 1 && leb (block_at q + 16) (length k)) h in
-    let s = and_parts (eqb (get_or q 0 0) 1) (leb (block_at q + 16) (length k)) p.1 in
-    record { long = eqb-true (length q) 18 p.0; first = eqb-true (get_or q 0 0) 1 s.0; inside = leb-true (block_at q + 16) (length k) s.1 }
+writing k q h = record { long = grind (arith, nat_tests); first = grind (arith, nat_tests); inside = grind (arith, nat_tests) }
 
 pub record Reading (k q : List ℕ) : Type 0 where
   pub long : length q ≡ 2
@@ -27,13 +26,7 @@ pub record Reading (k q : List ℕ) : Type 0 where
 
 pub reading : (k q : List ℕ) → is_read k q ≡ true → Reading k q
 unfolding is_read
-reading k q h =
-    let p = and_parts (eqb (length q) 2) (eqb (get_or q 0 0) 0 && leb (block_at q + 16) (length k)) h in
-    let s = and_parts (eqb (get_or q 0 0) 0) (leb (block_at q + 16) (length k)) p.1 in
-    record { long = eqb-true (length q) 2 p.0; first = eqb-true (get_or q 0 0) 0 s.0; inside = leb-true (block_at q + 16) (length k) s.1 }
-
-pub put_inside : (k q : List ℕ) → Writing k q → block_at q + length (drop 2 q) ≤ length k
-put_inside k q w = omega (arith, w.long, w.inside, length-drop 2 q)
+reading k q h = record { long = grind (arith, nat_tests); first = grind (arith, nat_tests); inside = grind (arith, nat_tests) }
 
 pub reads : Reads
 unfolding response kept_after is_read is_write
@@ -67,17 +60,12 @@ refuses k q h =
     ]
 
 pub kept_length : (k q : List ℕ) → length (kept_after k q) ≡ length k
-unfolding kept_after
-kept_length k q =
-    cond_both (is_write k q) (set_bytes k (block_at q) (drop 2 q)) k (λ v. length v ≡ length k)
-    (λ e. set_length k (block_at q) (drop 2 q) (put_inside k q (writing k q e))) (λ _. refl)
+unfolding kept_after is_write
+kept_length k q = grind (arith, nat_tests, set_length, length-drop {A = ℕ})
 
 kept_where : (k q : List ℕ) (a : ℕ) → (get_or (kept_after k q) a 0 ≡ get_or k a 0) ⊎ ((block_at q ≤ a) × (a < block_at q + 16))
-unfolding kept_after
-kept_where k q a =
-    cond_both (is_write k q) (set_bytes k (block_at q) (drop 2 q)) k (λ v. (get_or v a 0 ≡ get_or k a 0) ⊎ ((block_at q ≤ a) × (a < block_at q + 16)))
-    (λ e. let w = writing k q e in elim (set_where k (block_at q) (drop 2 q) a (put_inside k q w)) [ inl s ↦ inl s | inr s ↦ inr (s.0, omega (arith, s.1, w.long, length-drop 2 q)) ])
-    (λ _. inl refl)
+unfolding kept_after is_write
+kept_where k q a = grind (arith, nat_tests, set_where, length-drop {A = ℕ})
 
 pub keeps : Keeps
 keeps k q = (kept_length k q, kept_where k q)
@@ -97,54 +85,9 @@ first_bytes k q =
       | inr g ↦ rw (take_all 19 q g) (refl, refl)
     ]
 
--- ## As the code tests it
-module _ (k bytes : List ℕ) (len : ℕ) (h : len ≤ length bytes) where
-  pub read_test : is_read k (take len bytes) ≡ (eqb len 2 && (eqb (get_or bytes 0 0) 0 && leb (16 * get_or bytes 1 0 + 16) (length k)))
-  unfolding is_read
-  read_test =
-      elim (cases_eq len 2) [
-        | inl e ↦ rw (length-take-le len bytes h) (rw e (rw (get_or-take 2 bytes 0 0 (omega arith), get_or-take 2 bytes 1 0 (omega arith)) refl))
-        | inr n ↦ rw (length-take-le len bytes h) (rw (ne_eqb len 2 n) refl)
-      ]
-
-  pub write_test : is_write k (take len bytes) ≡ (eqb len 18 && (eqb (get_or bytes 0 0) 1 && leb (16 * get_or bytes 1 0 + 16) (length k)))
-  unfolding is_write
-  write_test =
-      elim (cases_eq len 18) [
-        | inl e ↦ rw (length-take-le len bytes h) (rw e (rw (get_or-take 18 bytes 0 0 (omega arith), get_or-take 18 bytes 1 0 (omega arith)) refl))
-        | inr n ↦ rw (length-take-le len bytes h) (rw (ne_eqb len 18 n) refl)
-      ]
-
-  block_same : 2 ≤ len → block_at (take len bytes) ≡ 16 * get_or bytes 1 0
-  block_same l = rw (get_or-take len bytes 1 0 (omega arith)) refl
-
-  not_both : is_read k (take len bytes) ≡ true → is_write k (take len bytes) ≡ false
-  not_both r =
-      elim (cases_Bool (is_write k (take len bytes))) [
-        | inl w ↦ absurd (omega (arith, (reading k (take len bytes) r).long, (writing k (take len bytes) w).long))
-        | inr w ↦ w
-      ]
-
-  pub read_found : is_read k (take len bytes) ≡ true →
-      (16 * get_or bytes 1 0 + 16 ≤ length k) × (response k (take len bytes) ≡ 0 ∷ take 16 (drop (16 * get_or bytes 1 0) k)) × (kept_after k (take len bytes) ≡ k)
-  unfolding response kept_after
-  read_found r =
-      let w = reading k (take len bytes) r in
-      let n : len ≡ 2 = sym (length-take-le len bytes h) ∙ w.long in
-      let e = block_same (omega arith) in
-      (omega (arith, w.inside, e), rw (r, e) refl, rw (not_both r) refl)
-
-  pub write_found : is_write k (take len bytes) ≡ true →
-      (16 * get_or bytes 1 0 + 16 ≤ length k) × (response k (take len bytes) ≡ 0 ∷ []) × (kept_after k (take len bytes) ≡ set_bytes k (16 * get_or bytes 1 0) (take 16 (drop 2 bytes)))
-  unfolding response kept_after
-  write_found w =
-      let f = writing k (take len bytes) w in
-      let n : len ≡ 18 = sym (length-take-le len bytes h) ∙ f.long in
-      let e = block_same (omega arith) in
-      let r : is_read k (take len bytes) ≡ false = elim (cases_Bool (is_read k (take len bytes))) [ inl t ↦ absurd (omega (arith, (reading k (take len bytes) t).long, f.long)) | inr t ↦ t ] in
-      let d : drop 2 (take len bytes) ≡ take 16 (drop 2 bytes) = rw n (same_lists _ _ (search (rules, places)) (λ j d l. grind (arith, places))) in
-      (omega (arith, f.inside, e), rw (r, w) refl, rw (w, e, d) refl)
-
-  pub other_found : is_read k (take len bytes) ≡ false → is_write k (take len bytes) ≡ false → (response k (take len bytes) ≡ 255 ∷ []) × (kept_after k (take len bytes) ≡ k)
-  unfolding response kept_after
-  other_found r w = rw (r, w) (refl, refl)
+-- a block that was written as a middle part of what is kept is what a write leaves
+pub put_block : (k q ys : List ℕ) (a n : ℕ) →
+    length q ≡ 18 → get_or q 0 0 ≡ 1 → a ≡ block_at q → a + 16 ≤ length k → n ≡ 16 → ys ≡ take (length q - 2) (drop 2 q) → put_mid a n k ys ≡ kept_after k q
+unfolding kept_after is_write
+put_block k q ys a n l f e h m s =
+    grind (arith, nat_tests, put_middle, take_all {A = ℕ}, length-drop {A = ℕ})

@@ -1,3 +1,4 @@
 pub mod Device
+pub mod States
 pub mod Responds
 pub mod Laws

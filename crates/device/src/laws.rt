@@ -2,36 +2,26 @@
 ghost use Rattle.device.specs.Laws.{Reads, Writes, Refuses, Keeps, FirstBytes};
 
 // A read answers 0 and the block.
-pub fn reads() -> u8
+pub fn reads()
     ensures { Reads }
-{
-    0
-}
+{}
 
 // A write answers 0, and its bytes are kept.
-pub fn writes() -> u8
+pub fn writes()
     ensures { Writes }
-{
-    0
-}
+{}
 
 // Everything else is answered 255 and changes nothing.
-pub fn refuses() -> u8
+pub fn refuses()
     ensures { Refuses }
-{
-    0
-}
+{}
 
 // Contents change in one block at most, and keep their length.
-pub fn keeps() -> u8
+pub fn keeps()
     ensures { Keeps }
-{
-    0
-}
+{}
 
 // Nineteen bytes of a request are enough.
-pub fn first_bytes() -> u8
+pub fn first_bytes()
     ensures { FirstBytes }
-{
-    0
-}
+{}

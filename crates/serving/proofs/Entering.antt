@@ -9,7 +9,8 @@ use Rattle.model.specs.Promises.{Sound, waits}
 use Rattle.model.proofs.Serves.{stays_sound, stays_stopped, done_with}
 use Rattle.model.proofs.Asked.{as_asked}
 use Rattle.model.proofs.Tallies.{accounts}
-use Rattle.serving.specs.Entries.{state_ok, device_in, state_in, numbers_of, refusal, answer, Serves, ServeSays, Promised}
+use Rattle.device.specs.States.{state_ok, device_in, numbers_of}
+use Rattle.serving.specs.Entries.{state_in, refusal, answer, Serves, ServeSays, Promised}
 use Rattle.serving.specs.declared.done.Done.{Done}
 use Rattle.serving.specs.declared.done.Done.TheVariants.{Served, Stopped, Refused}
 

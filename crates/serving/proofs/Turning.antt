@@ -1,5 +1,5 @@
 -- Turns, step by step as the code takes them.
-use Rattle.std.proofs.Common.{◌≡◌, ℕ, zero, suc, ◌-◌, ◌<◌, min, Bool, true, false, cond, List, take, sym, refl, ap, ◌∙◌, arith, rules}
+use Rattle.std.proofs.Common.{◌≡◌, ℕ, zero, suc, ◌-◌, ◌<◌, min, Bool, true, false, cond, List, length, take, sym, refl, ap, ◌∙◌, arith, rules}
 use Rattle.std.proofs.lemmas.List.{places, same_lists}
 use Rattle.vring.specs.Programs.{ret, then, Acts, ends, leaves}
 use Rattle.vring.specs.Rings.{Ring}
@@ -11,8 +11,8 @@ use Rattle.model.specs.Serving.{Look, nothing, halt, job, cut, device_after, hal
 use Rattle.serving.specs.Turns.{look_prog, Turn, turned, act_prog, turn_prog, run_prog}
 
 -- the response as it is sent, cut off
-pub cut_bytes : (bytes xs : List ℕ) (len cap : ℕ) → take len bytes ≡ xs → take (min len cap) bytes ≡ take cap xs
-cut_bytes bytes xs len cap e = rw (← e) (same_lists _ _ (search (rules, places)) (λ j d l. grind (arith, places)))
+pub cut_bytes : (cap : ℕ) (xs : List ℕ) → take (min (length xs) cap) xs ≡ take cap xs
+cut_bytes cap xs = same_lists _ _ (search (rules, places)) (λ j d l. grind (arith, places))
 
 module _ {M : Type 0} (acts : Acts M) (r : Ring) (n : ℕ) (d : Device) (m : M) where
   -- what a turn ends with and leaves

@@ -1,27 +1,18 @@
 -- What the entries answer, and what they leave of what they are lent.
-use Rattle.std.specs.Prelude.{◌≡◌, ℕ, zero, suc, ◌+◌, ◌*◌, ◌≤◌, Bool, true, cond, ◌&&◌, ◌⊎◌, List, [], ◌∷◌, length, take, drop, ◌==◌, ◌≢◌, nat_le, nat_lt, slice_index}
+use Rattle.std.specs.Prelude.{◌≡◌, ℕ, zero, suc, ◌+◌, ◌*◌, ◌≤◌, Bool, true, cond, ◌&&◌, ◌⊎◌, List, [], ◌∷◌, length, take, drop, ◌==◌, ◌≢◌, nat_le, nat_lt, slice_index, Option, Some, None}
 use Rattle.vring.specs.Rings.{Ring, ring_ok, placed_ok}
 use Rattle.chains.specs.Descriptors.{descriptor_at}
 use Rattle.chains.specs.declared.descriptor.Descriptor.{Descriptor}
-use Rattle.device.specs.Device.{Device}
+use Rattle.device.specs.States.{state_ok, device_in, numbers_of}
 use Rattle.model.specs.Serving.{State, serve_times, reset}
 use Rattle.model.specs.Promises.{Sound, waits, Job, Account, Orderly, InOrder}
+use Rattle.serving.specs.declared.part.Part.{Part}
 use Rattle.serving.specs.declared.done.Done.{Done}
 use Rattle.serving.specs.declared.done.Done.TheVariants.{Served, Stopped, Anew, Refused}
 
--- ## The device state that is lent: how many chains were served, and 1 if the device has stopped
-abbrev pub state_ok : (state : List ℕ) → Bool
-state_ok s = length s == 2 && (nat_lt (slice_index s 0) 65536 && nat_le (slice_index s 1) 1)
-
-abbrev pub device_in : (state kept : List ℕ) → Device
-device_in s k = record { kept = k; served = slice_index s 0; stopped = (slice_index s 1 == 1) }
-
+-- what is lent, as one state
 abbrev pub state_in : (memory state kept : List ℕ) → State
 state_in m s k = record { memory = m; device = device_in s k }
-
--- the two numbers of a device
-abbrev pub numbers_of : Device → List ℕ
-numbers_of d = d.served ∷ cond d.stopped 1 0 ∷ []
 
 -- ## Serving
 -- the number of the first refusal that applies, or 0: 1 the ring or the memory, 2 the state, 3 the contents, 4 the number of servings
@@ -83,3 +74,8 @@ part_ok r m i =
 -- the bytes that descriptor i names, or none
 unfoldable pub part : Ring → (memory : List ℕ) → (i : ℕ) → List ℕ
 part r m i = cond (part_ok r m i) (take (descriptor_at m (r.base + 8 * i)).len (drop (descriptor_at m (r.base + 8 * i)).addr m)) []
+
+-- where that part lies, if it is in memory
+abbrev pub part_place : Ring → (memory : List ℕ) → (i : ℕ) → Option Part
+part_place r m i =
+    cond (part_ok r m i) (Some (record { at = (descriptor_at m (r.base + 8 * i)).addr; len = (descriptor_at m (r.base + 8 * i)).len })) None

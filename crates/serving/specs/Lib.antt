@@ -1,3 +1,4 @@
 pub mod Turns
 pub mod Sees
 pub mod Entries
+pub mod Refusals

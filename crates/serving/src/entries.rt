@@ -4,38 +4,19 @@ ghost use Rattle.vring.specs.Rings.{ends_at};
 ghost use Rattle.vring.specs.Layouts.{ring_of};
 ghost use Rattle.device.specs.Responds.{device_of};
 ghost use Rattle.model.specs.Promises.{Sound};
-ghost use Rattle.serving.specs.Entries.{state_ok, device_in, state_in, numbers_of, refusal, ServeSays, Serves, Promised, AnewSays, part};
+ghost use Rattle.device.specs.States.{numbers_of};
+ghost use Rattle.serving.specs.Entries.{state_in, refusal, ServeSays, Serves, Promised, AnewSays, part};
+ghost use Rattle.serving.specs.Refusals.{said};
 
 use crate::done::Done;
 use crate::job::Job;
+use crate::part::part_of;
+use crate::refusal::Refusal;
 use crate::turn::run;
 use device::progress::Progress;
 use vring::layout::Layout;
 use vring::memory::GuestMemory;
 use vring::plain::Plain;
-use vring::words::word_at;
-
-// The state that two numbers say, if they say one.
-fn read_state(state: &[u32]) -> Option<Progress>
-    ensures { MatchOption result (state_ok state.now ≡ false) (λ p. (state_ok state.now ≡ true) × ((k : List _) → device_of p k ≡ device_in state.now k)) }
-{
-    if state.len() != 2 || state[0] >= 65536 || state[1] > 1 {
-        return None;
-    }
-    Some(Progress {
-        served: state[0] as u16,
-        stopped: state[1] == 1,
-    })
-}
-
-// The two numbers that say a state.
-fn write_state(state: &mut [u32], progress: &Progress)
-    requires { length state.old ≡ 2 }
-    ensures { (k : List _) → state.new ≡ numbers_of (device_of progress.now k) }
-{
-    state[0] = progress.served as u32;
-    state[1] = if progress.stopped { 1 } else { 0 };
-}
 
 // At most `times` servings of memory as it stands, from one state to the next, and what is answered then.
 fn serve_plain(
@@ -60,6 +41,31 @@ fn serve_plain(
     )
 }
 
+// Serves the chains of a ring, if nothing is wrong with what is lent.
+pub fn try_serve(
+    places: u64,
+    begins: u64,
+    memory: &mut [u8],
+    state: &mut [u32],
+    kept: &mut [u8],
+    times: u64,
+) -> Result<Done, Refusal>
+    ensures does { ServeSays (refusal (record { size = places; base = begins }) memory.old state.old kept.old times) (record { size = places; base = begins }) memory.old state.old kept.old times (said result) memory.new state.new kept.new }
+    ensures promises { refusal (record { size = places; base = begins }) memory.old state.old kept.old times ≡ 0 → Promised (record { size = places; base = begins }) (state_in memory.old state.old kept.old) times (said result) (state_in memory.new state.new kept.new) }
+{
+    let layout = Layout::new(places, begins, memory.len()).ok_or(Refusal::Ring)?;
+    let mut progress = Progress::try_from(&*state)?;
+    if kept.len() > 4096 {
+        return Err(Refusal::Contents);
+    }
+    if times > 1000 {
+        return Err(Refusal::Times);
+    }
+    let done = serve_plain(&layout, memory, &mut progress, kept, times);
+    state.copy_from_slice(&<[u32; 2]>::from(progress));
+    Ok(done)
+}
+
 // Serves the chains of a ring of `places` descriptors that begins at `begins`, at most `times` of them.
 pub fn serve(
     places: u64,
@@ -72,21 +78,10 @@ pub fn serve(
     ensures does { ServeSays (refusal (record { size = places; base = begins }) memory.old state.old kept.old times) (record { size = places; base = begins }) memory.old state.old kept.old times result memory.new state.new kept.new }
     ensures promises { refusal (record { size = places; base = begins }) memory.old state.old kept.old times ≡ 0 → Promised (record { size = places; base = begins }) (state_in memory.old state.old kept.old) times result (state_in memory.new state.new kept.new) }
 {
-    let Some(layout) = Layout::new(places, begins, memory.len()) else {
-        return Done::Refused(1);
-    };
-    let Some(mut progress) = read_state(state) else {
-        return Done::Refused(2);
-    };
-    if kept.len() > 4096 {
-        return Done::Refused(3);
+    match try_serve(places, begins, memory, state, kept, times) {
+        Ok(done) => done,
+        Err(refusal) => Done::from(refusal),
     }
-    if times > 1000 {
-        return Done::Refused(4);
-    }
-    let done = serve_plain(&layout, memory, &mut progress, kept, times);
-    write_state(state, &progress);
-    done
 }
 
 // Makes both numbers of the state 0, if it has two.
@@ -94,10 +89,9 @@ fn reset(state: &mut [u32]) -> Done
     ensures { AnewSays state.old result state.new }
 {
     if state.len() != 2 {
-        return Done::Refused(2);
+        return Done::from(Refusal::State);
     }
-    state[0] = 0;
-    state[1] = 0;
+    state.fill(0);
     Done::Anew
 }
 
@@ -109,20 +103,13 @@ pub fn begin_anew(state: &mut [u32]) -> Done
 }
 
 // The part of memory that descriptor `at` names, or an empty one.
+#[tactic(auto, unfolding(crate::specs::Entries::part_ok, crate::specs::Entries::part))]
 pub fn piece<'a>(places: u64, begins: u64, memory: &'a [u8], at: u64) -> &'a [u8]
     ensures { result.now ≡ part (record { size = places; base = begins }) memory.now at }
 {
-    let Some(layout) = Layout::new(places, begins, memory.len()) else {
-        return &memory[0..0];
+    let Some(part) = part_of(places, begins, memory, at) else {
+        return &[];
     };
-    if at >= places {
-        return &memory[0..0];
-    }
-    let from = layout.base + 8 * at as usize;
-    let addr = word_at(memory, from) as usize;
-    let len = word_at(memory, from + 2) as usize;
-    if addr + len > memory.len() {
-        return &memory[0..0];
-    }
-    &memory[addr..addr + len]
+    let from = part.at as usize;
+    &memory[from..from + part.len as usize]
 }

@@ -1,8 +1,7 @@
 // What a look finds.
 ghost use Rattle.std.specs.Prelude.{◌≡◌, []};
-ghost use Rattle.chains.specs.Chains.{listed};
-ghost use Rattle.transfer.specs.Requests.{held};
 
+use arrayvec::ArrayVec;
 use chains::chain::Chain;
 use transfer::request::Request;
 
@@ -14,26 +13,16 @@ pub struct Job {
     pub head: u16,
 }
 
-#[derive(Clone, Copy)]
-pub enum Seen {
-    // Nothing waits.
-    Nothing,
-    // The guest breaks the rules.
-    Halt,
-    // A chain waits, and is in the job.
-    Ready,
-}
-
 impl Job {
     // A job with nothing in it.
     pub fn new() -> Job
         ensures head { result.head ≡ 0 }
-        ensures chain { listed result.chain ≡ [] }
-        ensures request { held result.request ≡ [] }
+        ensures chain { result.chain ≡ [] }
+        ensures request { result.request.items ≡ [] }
     {
         Job {
             chain: Chain::new(),
-            request: Request::new(),
+            request: ArrayVec::new(),
             head: 0,
         }
     }

@@ -3,15 +3,14 @@ ghost use Rattle.std.specs.Prelude.{◌≡◌, ◌+◌, ◌<◌, ◌≤◌, fals
 ghost use Rattle.vring.specs.Programs.{ends, leaves};
 ghost use Rattle.vring.specs.Rings.{ends_at};
 ghost use Rattle.vring.specs.Layouts.{ring_of};
-ghost use Rattle.chains.specs.Chains.{listed};
-ghost use Rattle.transfer.specs.Requests.{held};
 ghost use Rattle.transfer.specs.Responses.{finish_prog, Within};
 ghost use Rattle.device.specs.Responds.{device_of};
 ghost use Rattle.model.specs.Serving.{cut, device_after};
 ghost use Rattle.serving.specs.Turns.{turned, turn_prog, run_prog};
 
-use crate::job::{Job, Seen};
+use crate::job::Job;
 use crate::look::look;
+use chains::breach::Breach;
 use device::progress::Progress;
 use device::respond::respond;
 use transfer::finish::{capacity, finish};
@@ -26,20 +25,22 @@ fn complete<M: GuestMemory>(
     kept: &mut [u8],
     job: &Job,
 )
-    requires { (ends_at (ring_of layout.now) ≤ M.holds m.old) × ((Within (M.holds m.old) (listed job.now.chain)) × (progress.old.stopped ≡ false)) }
-    ensures device { device_of progress.new kept.new ≡ device_after (device_of progress.old kept.old) (held job.now.request) }
-    ensures then { m.new ≡ leaves M.acts (finish_prog (ring_of layout.now) progress.old.served job.now.head (listed job.now.chain) (cut kept.old (listed job.now.chain) (held job.now.request))) m.old }
+    requires ring { ends_at (ring_of layout.now) ≤ M.holds m.old }
+    requires parts { Within (M.holds m.old) job.now.chain }
+    requires running { progress.old.stopped ≡ false }
+    ensures device { device_of progress.new kept.new ≡ device_after (device_of progress.old kept.old) job.now.request.items }
+    ensures then { m.new ≡ leaves M.acts (finish_prog (ring_of layout.now) progress.old.served job.now.head job.now.chain (cut kept.old job.now.chain job.now.request.items)) m.old }
     ensures size { M.holds m.new ≡ M.holds m.old }
 {
-    let response = respond(kept, &job.request);
-    let n = response.len.min(capacity(&job.chain));
+    let response = respond(kept, job.request.as_slice());
+    let n = response.len().min(capacity(&job.chain));
     finish(
         layout,
         m,
         progress.served,
         job.head,
         &job.chain,
-        &response.bytes[0..n],
+        &response.as_slice()[..n],
     );
     progress.served = progress.served.wrapping_add(1);
 }
@@ -61,14 +62,14 @@ pub fn turn<M: GuestMemory>(
         return false;
     }
     match look(layout, m, progress.served, job) {
-        Seen::Nothing => false,
-        Seen::Halt => {
-            progress.stopped = true;
-            false
-        }
-        Seen::Ready => {
+        Ok(false) => false,
+        Ok(true) => {
             complete(layout, m, progress, kept, job);
             true
+        }
+        Err(Breach) => {
+            progress.stopped = true;
+            false
         }
     }
 }
@@ -87,8 +88,9 @@ pub fn run<M: GuestMemory>(
     ensures then { m.new ≡ leaves M.acts (run_prog times (ring_of layout.now) (M.holds m.old) (device_of progress.old kept.old)) m.old }
     ensures size { M.holds m.new ≡ M.holds m.old }
 {
-    let mut left = times;
-    while left > 0 && turn(layout, m, progress, kept, job) {
-        left -= 1;
+    for _done in 0..times {
+        if !turn(layout, m, progress, kept, job) {
+            break;
+        }
     }
 }

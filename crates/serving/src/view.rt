@@ -1,13 +1,14 @@
 // A view of one chain: guest memory and the ring in it, borrowed while the chain is followed.
-ghost use Rattle.std.specs.Prelude.{◌≡◌, ◌≤◌};
+ghost use Rattle.std.specs.Prelude.{◌≡◌, ◌≤◌, []};
 ghost use Rattle.vring.specs.Programs.{pair, ends, leaves};
 ghost use Rattle.vring.specs.Rings.{ends_at, head_at};
 ghost use Rattle.vring.specs.Layouts.{ring_of};
-ghost use Rattle.chains.specs.Chains.{chain_prog, listed, Follows};
+ghost use Rattle.chains.specs.Chains.{chain_prog, Follows};
 
+use chains::breach::Breach;
 use chains::chain::Chain;
 use chains::follow::follow;
-use chains::ring_parts::table_of;
+use chains::table::Table;
 use vring::layout::Layout;
 use vring::memory::GuestMemory;
 
@@ -26,15 +27,16 @@ pub struct View<'l, 'm, M> {
 }
 
 impl<'l, 'm, M: GuestMemory> Queue<'l, 'm, M> {
-    // The chain from `head` on, listed in `out`, which lists nothing yet; false where it is bad.
-    fn follow(&mut self, head: u16, out: &mut Chain) -> bool
-        requires { (ends_at (ring_of self.old.layout.now) ≤ M.holds self.old.memory.now) × (out.old.len ≡ 0) }
-        ensures value { Follows (ends M.acts (chain_prog self.old.layout.now.size self.old.layout.now.base self.old.layout.now.size head) self.old.memory.now) result (listed out.old) (listed out.new) }
+    // The chain from `head` on, listed in `out`, which lists nothing yet; an error where it is bad.
+    fn follow(&mut self, head: u16, out: &mut Chain) -> Result<(), Breach>
+        requires ring { ends_at (ring_of self.old.layout.now) ≤ M.holds self.old.memory.now }
+        requires empty { out.old ≡ [] }
+        ensures value { Follows (ends M.acts (chain_prog self.old.layout.now.size self.old.layout.now.base self.old.layout.now.size head) self.old.memory.now) result out.old out.new }
         ensures then { self.new.memory.now ≡ leaves M.acts (chain_prog self.old.layout.now.size self.old.layout.now.base self.old.layout.now.size head) self.old.memory.now }
         ensures size { M.holds self.new.memory.now ≡ M.holds self.old.memory.now }
         ensures same { self.new.memory.ghost_name ≡ self.old.memory.ghost_name }
     {
-        let table = table_of(self.layout);
+        let table = Table::from(self.layout);
         let left = self.layout.size;
         follow(&table, self.memory, head as usize, left, out)
     }
@@ -57,10 +59,11 @@ impl<'l, 'm, M: GuestMemory> View<'l, 'm, M> {
         }
     }
 
-    // The chain, listed in `out`, which lists nothing yet; false where it is bad.
-    pub fn follow(&mut self, out: &mut Chain) -> bool
-        requires { (ends_at (ring_of self.old.queue.layout.now) ≤ M.holds self.old.queue.memory.now) × (out.old.len ≡ 0) }
-        ensures value { Follows (ends M.acts (chain_prog self.old.queue.layout.now.size self.old.queue.layout.now.base self.old.queue.layout.now.size self.old.head) self.old.queue.memory.now) result (listed out.old) (listed out.new) }
+    // The chain, listed in `out`, which lists nothing yet; an error where it is bad.
+    pub fn follow(&mut self, out: &mut Chain) -> Result<(), Breach>
+        requires ring { ends_at (ring_of self.old.queue.layout.now) ≤ M.holds self.old.queue.memory.now }
+        requires empty { out.old ≡ [] }
+        ensures value { Follows (ends M.acts (chain_prog self.old.queue.layout.now.size self.old.queue.layout.now.base self.old.queue.layout.now.size self.old.head) self.old.queue.memory.now) result out.old out.new }
         ensures then { self.new.queue.memory.now ≡ leaves M.acts (chain_prog self.old.queue.layout.now.size self.old.queue.layout.now.base self.old.queue.layout.now.size self.old.head) self.old.queue.memory.now }
         ensures size { M.holds self.new.queue.memory.now ≡ M.holds self.old.queue.memory.now }
         ensures same { self.new.queue.memory.ghost_name ≡ self.old.queue.memory.ghost_name }

@@ -3,7 +3,6 @@ use Rattle.std.specs.Prelude.{ℕ, ◌-◌, min, cond, List, [], ◌∷◌, ◌+
 use Rattle.vring.specs.Programs.{Prog, ret, then, get_bytes}
 use Rattle.chains.specs.Descriptors.{writable}
 use Rattle.chains.specs.declared.descriptor.Descriptor.{Descriptor}
-use Rattle.transfer.specs.declared.request.Request.{Request}
 
 -- the request: the bytes of the readable descriptors, in order
 unfoldable pub request : (memory : List ℕ) → List Descriptor → List ℕ
@@ -16,7 +15,3 @@ request_prog n [] = ret []
 request_prog n (d ∷ ds) =
     cond (writable d) (request_prog n ds)
     (then (get_bytes (min d.len n) d.addr) (λ xs. then (request_prog (n - min d.len n) ds) (λ ys. ret (xs ++ ys))))
-
--- the bytes that were gathered
-abbrev pub held : Request → List ℕ
-held q = take q.len q.bytes

@@ -3,40 +3,36 @@ ghost use Rattle.std.specs.Prelude.{◌≡◌, ◌+◌, ◌<◌, ◌≤◌, leng
 ghost use Rattle.vring.specs.Programs.{leaves};
 ghost use Rattle.vring.specs.Rings.{ends_at};
 ghost use Rattle.vring.specs.Layouts.{ring_of};
-ghost use Rattle.chains.specs.Chains.{listed};
 ghost use Rattle.transfer.specs.Responses.{capacity, fill_prog, used_prog, finish_prog, Within};
 
 use chains::chain::Chain;
-use chains::descriptor::Descriptor;
 use vring::layout::Layout;
 use vring::memory::GuestMemory;
 
 // How many bytes a response may have.
 pub fn capacity(chain: &Chain) -> usize
-    ensures { result ≡ capacity (listed chain.now) }
+    ensures { result ≡ capacity chain.now }
 {
-    let mut sum: usize = 0;
-    for d in &chain.at[..chain.len] {
-        if d.is_writable() {
-            sum += d.len as usize;
-        }
-    }
-    sum
+    chain
+        .descriptors()
+        .iter()
+        .map(|d| if d.is_writable() { d.len as usize } else { 0 })
+        .sum()
 }
 
 // The response into the writable descriptors, in order; what finds no place is cut off.
 fn fill<M: GuestMemory>(m: &mut M, chain: &Chain, response: &[u8])
-    requires { Within (M.holds m.old) (listed chain.now) }
-    ensures then { m.new ≡ leaves M.acts (fill_prog (listed chain.now) response.now) m.old }
+    requires { Within (M.holds m.old) chain.now }
+    ensures then { m.new ≡ leaves M.acts (fill_prog chain.now response.now) m.old }
     ensures size { M.holds m.new ≡ M.holds m.old }
 {
-    let mut used = 0;
-    for d in &chain.at[..chain.len] {
+    let mut rest = response;
+    for d in chain.descriptors() {
         if d.is_writable() {
-            let left = response.len() - used;
-            let n = (d.len as usize).min(left);
-            m.put_bytes(d.addr as usize, &response[used..used + n]);
-            used += n;
+            let n = (d.len as usize).min(rest.len());
+            let (part, after) = rest.split_at(n);
+            m.put_bytes(d.addr as usize, part);
+            rest = after;
         }
     }
 }
@@ -62,8 +58,10 @@ pub fn finish<M: GuestMemory>(
     chain: &Chain,
     response: &[u8],
 )
-    requires { (ends_at (ring_of layout.now) ≤ M.holds m.old) × ((Within (M.holds m.old) (listed chain.now)) × (length response.now < 65536)) }
-    ensures then { m.new ≡ leaves M.acts (finish_prog (ring_of layout.now) k head (listed chain.now) response.now) m.old }
+    requires ring { ends_at (ring_of layout.now) ≤ M.holds m.old }
+    requires parts { Within (M.holds m.old) chain.now }
+    requires long { length response.now < 65536 }
+    ensures then { m.new ≡ leaves M.acts (finish_prog (ring_of layout.now) k head chain.now response.now) m.old }
     ensures size { M.holds m.new ≡ M.holds m.old }
 {
     fill(m, chain, response);

@@ -4,13 +4,15 @@ ghost use Rattle.vring.specs.Plain.{lent};
 
 use crate::memory::GuestMemory;
 use crate::plain::Plain;
+use crate::words::word_at;
 
-// The bytes of `from` into `into`, which is as long.
-fn copy(into: &mut [u8], from: &[u8])
-    requires { length into.old ≡ length from.now }
-    ensures { into.new ≡ from.now }
-{
-    into.copy_from_slice(from);
+impl Plain<'_> {
+    // The bytes, to be read.
+    fn bytes(&self) -> &[u8]
+        ensures { result.now ≡ self.now.bytes.now }
+    {
+        self.bytes
+    }
 }
 
 impl GuestMemory for Plain<'_> {
@@ -27,17 +29,17 @@ impl GuestMemory for Plain<'_> {
     }
 
     fn number(&mut self, at: usize) -> u16 {
-        u16::from_le_bytes([self.bytes[at], self.bytes[at + 1]])
+        word_at(self.bytes(), at)
     }
 
     fn put_number(&mut self, at: usize, value: u16) {
-        let b = value.to_le_bytes();
-        self.bytes[at] = b[0];
-        self.bytes[at + 1] = b[1];
+        let [low, high] = value.to_le_bytes();
+        self.bytes[at] = low;
+        self.bytes[at + 1] = high;
     }
 
     fn put_bytes(&mut self, at: usize, from: &[u8]) {
         let end = at + from.len();
-        copy(&mut self.bytes[at..end], from);
+        self.bytes[at..end].copy_from_slice(from);
     }
 }

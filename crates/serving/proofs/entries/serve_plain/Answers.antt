@@ -9,7 +9,7 @@ use Rattle.model.specs.Serving.{State, serve_times}
 use Rattle.model.proofs.Serves.{ring_stands, stays_sound}
 use Rattle.serving.specs.declared.done.Done.TheVariants.{Served}
 use Rattle.serving.specs.Turns.{run_prog}
-use Rattle.serving.specs.Entries.{numbers_of}
+use Rattle.device.specs.States.{numbers_of}
 use Rattle.serving.proofs.Alone.{runs_alone}
 use Rattle.serving.proofs.Entering.{answer_stopped, answer_served, waits_by}
 use Rattle.serving.proofs.entries.serve_plain.Goals as goal

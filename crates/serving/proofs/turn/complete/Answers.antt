@@ -1,8 +1,8 @@
-use Rattle.std.proofs.Common.{◌≡◌, ◌-◌, min, take, ap, ◌∙◌, arith}
+use Rattle.std.proofs.Common.{◌≡◌, min, take, ap, ◌∙◌, ap₂}
 use Rattle.vring.specs.Programs.{leaves}
 use Rattle.vring.specs.Layouts.{ring_of}
-use Rattle.chains.specs.Chains.{listed}
 use Rattle.transfer.specs.Responses.{capacity, finish_prog}
+use Rattle.device.specs.Device.{response, kept_after}
 use Rattle.model.specs.Serving.{cut}
 use Rattle.serving.proofs.Turning.{cut_bytes, same_device}
 use Rattle.serving.proofs.turn.complete.Goals as goal
@@ -10,12 +10,13 @@ use Rattle.serving.proofs.turn.complete.Goals as goal
 pub returns : goal.returns
 unfolding cut
 returns g c =
-    let acts = g.M.GuestMemory.acts in let r = ring_of c.args.layout.now in let j = c.args.job.now in let a = c.respond-response.result in
-    let e = c.min-n.ensures ∙ ap (λ x. min a.len x) c.capacity.ensures in
-    let n : c.min-n.result - 0 ≡ min a.len (capacity (listed j.chain)) = omega arith in
-    let xs = ap (λ x. take x a.bytes) n ∙ cut_bytes a.bytes _ a.len (capacity (listed j.chain)) c.respond-response.ensures.value in
+    let acts = g.M.GuestMemory.acts in let r = ring_of c.args.layout.now in let j = c.args.job.now in let xs = c.respond-response.result.items in
+    let n = c.min-n.ensures ∙ ap₂ min c.len.ensures.value c.capacity.ensures in
+    let q = c.respond-response.ensures.value ∙ ap (response c.args.kept.now) c.as_slice.ensures.value in
+    let sent : take c.min-n.result c.as_slice-2.result.now ≡ take (capacity j.chain) (response c.args.kept.now j.request.items) =
+      ap₂ take n c.as_slice-2.ensures.value ∙ (cut_bytes (capacity j.chain) xs ∙ ap (take (capacity j.chain)) q) in
     record {
-      device = same_device _ _ _ _ c.respond-response.ensures.after c.requires.1.1;
-      then = c.finish.ensures.then ∙ ap (λ x. leaves acts (finish_prog r c.args.progress.now.served j.head (listed j.chain) x) c.args.m.now) xs;
+      device = same_device _ _ _ _ (c.respond-response.ensures.after ∙ ap (kept_after c.args.kept.now) c.as_slice.ensures.value) c.requires.running;
+      then = c.finish.ensures.then ∙ ap (λ x. leaves acts (finish_prog r c.args.progress.now.served j.head j.chain x) c.args.m.now) sent;
       size = cc;
     }

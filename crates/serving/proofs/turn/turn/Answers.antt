@@ -1,7 +1,6 @@
-use Rattle.std.proofs.Common.{◌≤◌, sym, refl, subst}
+use Rattle.std.proofs.Common.{◌≤◌, Ok, sym, refl, ap, ◌∙◌, subst}
 use Rattle.vring.specs.Rings.{ends_at}
 use Rattle.vring.specs.Layouts.{ring_of}
-use Rattle.chains.specs.Chains.{listed}
 use Rattle.transfer.specs.Responses.{Within}
 use Rattle.device.specs.Responds.{device_of}
 use Rattle.serving.proofs.Sights.{seen_nothing, seen_halt, seen_ready}
@@ -16,19 +15,21 @@ returns-then-progress g c =
 pub complete-requires : goal.complete-requires
 complete-requires g c =
     let k = sym c.look.ensures.size in
-    (subst (λ n. ends_at (ring_of c.args.layout.now) ≤ n) k c.requires, (subst (λ n. Within n (listed c.look.new.job.chain)) k (c.look.ensures.within c.in-Ready.is), c.if-progress.false))
+    record { ring = subst (λ n. ends_at (ring_of c.args.layout.now) ≤ n) k c.requires; parts = subst (λ n. Within n c.look.new.job.chain) k (c.look.ensures.within (c.in-Ok-true.is ∙ ap Ok c.in-Ok-true.field-0-test)); running = c.if-progress.false }
 
-pub returns-in-Nothing : goal.returns-in-Nothing
-returns-in-Nothing g c =
-    let b = turn_nothing g.M.GuestMemory.acts (ring_of c.args.layout.now) (g.M.GuestMemory.holds c.args.m.now) (device_of c.args.progress.now c.args.kept.now) c.args.m.now c.look.new.m _ c.if-progress.false refl c.look.ensures.then (seen_nothing _ _ c.in-Nothing.ensures.value) in
+pub returns-in-Ok-false : goal.returns-in-Ok-false
+returns-in-Ok-false g c =
+    let l = c.in-Ok-false.is ∙ ap Ok c.in-Ok-false.field-0-test in
+    let b = turn_nothing g.M.GuestMemory.acts (ring_of c.args.layout.now) (g.M.GuestMemory.holds c.args.m.now) (device_of c.args.progress.now c.args.kept.now) c.args.m.now c.look.new.m _ c.if-progress.false refl c.look.ensures.then (seen_nothing _ _ _ l c.look.ensures.value) in
     record { value = b.0; then = b.1; size = c.look.ensures.size }
 
-pub returns-in-Halt : goal.returns-in-Halt
-returns-in-Halt g c =
-    let b = turn_halts g.M.GuestMemory.acts (ring_of c.args.layout.now) (g.M.GuestMemory.holds c.args.m.now) (device_of c.args.progress.now c.args.kept.now) c.args.m.now c.look.new.m _ c.if-progress.false refl c.look.ensures.then (seen_halt _ _ c.in-Halt.ensures.value) in
+pub returns-in-Err : goal.returns-in-Err
+returns-in-Err g c =
+    let b = turn_halts g.M.GuestMemory.acts (ring_of c.args.layout.now) (g.M.GuestMemory.holds c.args.m.now) (device_of c.args.progress.now c.args.kept.now) c.args.m.now c.look.new.m _ c.if-progress.false refl c.look.ensures.then (seen_halt _ _ _ _ c.in-Err.is c.look.ensures.value) in
     record { value = b.0; then = b.1; size = c.look.ensures.size }
 
-pub returns-in-Ready : goal.returns-in-Ready
-returns-in-Ready g c =
-    let b = turn_serves g.M.GuestMemory.acts (ring_of c.args.layout.now) (g.M.GuestMemory.holds c.args.m.now) (device_of c.args.progress.now c.args.kept.now) c.args.m.now c.look.new.m _ c.if-progress.false refl c.look.ensures.then c.complete.new.m _ _ _ _ (seen_ready _ _ c.in-Ready.ensures.value) c.complete.ensures.device c.complete.ensures.then in
+pub returns-in-Ok-true : goal.returns-in-Ok-true
+returns-in-Ok-true g c =
+    let l = c.in-Ok-true.is ∙ ap Ok c.in-Ok-true.field-0-test in
+    let b = turn_serves g.M.GuestMemory.acts (ring_of c.args.layout.now) (g.M.GuestMemory.holds c.args.m.now) (device_of c.args.progress.now c.args.kept.now) c.args.m.now c.look.new.m _ c.if-progress.false refl c.look.ensures.then c.complete.new.m _ _ _ _ (seen_ready _ _ _ l c.look.ensures.value) c.complete.ensures.device c.complete.ensures.then in
     record { value = b.0; then = b.1; size = cc }

@@ -1,18 +1,9 @@
-use Rattle.std.proofs.Common.{sym, arith}
-use Rattle.transfer.proofs.Fills.{capacity_writes, capacity_reads, capacity_end}
+use Rattle.std.proofs.Common.{◌≡◌, cond, ◌∙◌, rules}
+use Rattle.std.specs.List.{sum_by}
+use Rattle.chains.specs.Descriptors.{writable}
+use Rattle.transfer.proofs.Fills.{capacity_sum}
 use Rattle.transfer.proofs.finish.capacity.Goals as goal
-use Rattle.transfer.proofs.finish.capacity.Goals.{then-is_writable, else-is_writable}
-
-pub loop-d-preserved : goal.loop-d-preserved
-loop-d-preserved c =
-    elim c.if-is_writable.branch [
-      | then-is_writable w ↦
-          let e = capacity_writes _ _ _ c.loop-d-test.true (sym w.if-is_writable.ensures) in
-          (omega (arith, e, w.sum-is), omega (arith, w.sum-is))
-      | else-is_writable w ↦
-          let e = capacity_reads _ _ _ c.loop-d-test.true (sym w.if-is_writable.ensures) in
-          (omega (arith, e, w.sum-is), omega (arith, w.sum-is))
-    ]
 
 pub returns : goal.returns
-returns c = omega (arith, capacity_end _ _ c.loop-d-test.false)
+returns c =
+    let sum : c.sum.result ≡ sum_by (λ d. cond (writable d) d.len 0) c.args.chain.now = search rules in sum ∙ capacity_sum c.args.chain.now

@@ -9,7 +9,7 @@ use Rattle.vring.proofs.plain_memory.PlainGuestMemory.put_bytes.Goals as goal
 pub returns : goal.returns
 returns c =
     let s = c.args.self.now in
-    let e = put_part s.bytes.now c.copy.new.into c.args.from.now c.args.at _ c.copy.ensures (omega arith) c.requires in
+    let e = put_part s.bytes.now c.copy_from_slice.new.self c.args.from.now c.args.at _ c.copy_from_slice.ensures.after (omega arith) c.requires in
     record {
       then = ap {B = Plain} (λ m. record { bytes = at_last s.bytes m }) e ∙ sym (lent_leaves (put_bytes c.args.at c.args.from.now) s);
       size = ap length e ∙ put_long _ _ _ c.requires;
