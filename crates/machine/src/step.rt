@@ -1,6 +1,7 @@
 // What each command does.
-ghost use Rattle.std.specs.Prelude.{◌≡◌, ◌+◌, ◌<◌, ◌≤◌, [], IfOk, string_bytes};
+ghost use Rattle.std.specs.Prelude.{◌≡◌, ◌+◌, ◌<◌, ◌≤◌, [], IfOk, OnOk, string_bytes};
 ghost use Rattle.serving.specs.Entries.{refusal, ServeSays};
+ghost use Rattle.serving.specs.Refusals.{said};
 ghost use Rattle.script.specs.Commands.{cmd_of};
 ghost use Rattle.script.specs.Format.{memory as a_memory, bytes_at, kept as some_kept, serve as some_servings, anew, piece as a_piece};
 ghost use Rattle.machine.specs.Steps.{counted, step};
@@ -13,7 +14,8 @@ use crate::refusal::Refusal;
 use report::store::Store;
 use script::command::Command;
 use serving::done::Done;
-use serving::entries::{begin_anew, piece, serve};
+use serving::entries::{begin_anew, piece, try_serve};
+use serving::refusal::Refusal as Refused;
 use std::alloc::{AllocError, Global};
 
 // The bytes 0, 1, 2 and on, modulo 256, `n` of them.
@@ -29,7 +31,7 @@ impl Machine {
         ensures { Steps result (step (a_memory n) self.old) self.old self.new [] [] }
     {
         if n > 65536 {
-            return Err(Halt::Refused(Refusal::MemoryTooLong));
+            return Err(Halt::from(Refusal::MemoryTooLong));
         }
         self.memory = vec![in heap; 0; n as usize]?;
         Ok(())
@@ -42,7 +44,7 @@ impl Machine {
         let n = self.memory.len() as u64;
         let count = bytes.len() as u64;
         if count > n || at > n - count {
-            return Err(Halt::Refused(Refusal::Outside(at)));
+            return Err(Halt::from(Refusal::Outside(at)));
         }
         let from = at as usize;
         self.memory[from..from + bytes.len()].copy_from_slice(bytes);
@@ -54,18 +56,19 @@ impl Machine {
         ensures { Steps result (step (some_kept n) self.old) self.old self.new [] [] }
     {
         if n > 4096 {
-            return Err(Halt::Refused(Refusal::Kept(n)));
+            return Err(Halt::from(Refusal::Kept(n)));
         }
         self.kept = count_up(heap, n)?;
         Ok(())
     }
 
     // At most `times` servings.
-    fn serve_all(&mut self, times: u64) -> Done
-        ensures does { ServeSays (refusal self.old.ring self.old.memory self.old.state self.old.kept times) self.old.ring self.old.memory self.old.state self.old.kept times result self.new.memory self.new.state self.new.kept }
+    fn serve_all(&mut self, times: u64) -> Result<Done, Refused>
+        ensures does { ServeSays (refusal self.old.ring self.old.memory self.old.state self.old.kept times) self.old.ring self.old.memory self.old.state self.old.kept times (said result) self.new.memory self.new.state self.new.kept }
+        ensures ok { OnOk result (refusal self.old.ring self.old.memory self.old.state self.old.kept times ≡ 0) }
         ensures ring { self.new.ring ≡ self.old.ring }
     {
-        serve(
+        try_serve(
             self.ring.size,
             self.ring.base,
             &mut self.memory,
@@ -81,10 +84,10 @@ impl Machine {
     {
         let memory = self.memory.to_vec(heap)?;
         let kept = self.kept.to_vec(heap)?;
-        let done = self.serve_all(times);
-        if let Done::Refused(number) = done {
-            return Err(Halt::Refused(self.fault(number, times)));
-        }
+        let done = match self.serve_all(times) {
+            Ok(done) => done,
+            Err(refused) => return Err(Halt::from(self.fault(refused, times))),
+        };
         write_changes(out, Store::Memory, &memory, &self.memory)?;
         write_changes(out, Store::Kept, &kept, &self.kept)?;
         write_answer(out, done)?;

@@ -6,6 +6,9 @@ use Rattle.machine.proofs.machine.Machine.serve_all.Goals as goal
 pub returns-clause-does : goal.returns-clause-does
 returns-clause-does c =
     let s = c.self.inside in
-    let m : length c.serve.new.memory ≡ s.memory.len = omega arith in
-    let k : length c.serve.new.kept ≡ s.kept.len = omega arith in
-    rw (← c.self.view_is) (says_on _ _ _ _ _ _ _ _ _ _ _ _ _ c.deref_mut.ensures.value c.deref_mut-2.ensures.value (with_items_is s.memory _ m) (with_items_is s.kept _ k) c.serve.ensures.does)
+    let m : length c.try_serve.new.memory ≡ s.memory.len = omega arith in
+    let k : length c.try_serve.new.kept ≡ s.kept.len = omega arith in
+    rw (← c.self.view_is) (says_on _ _ _ _ _ _ _ _ _ _ _ _ _ c.deref_mut.ensures.value c.deref_mut-2.ensures.value (with_items_is s.memory _ m) (with_items_is s.kept _ k) c.try_serve.ensures.does)
+
+pub returns-clause-ok : goal.returns-clause-ok
+returns-clause-ok c = rw (← c.self.view_is, ← c.deref_mut.ensures.value, ← c.deref_mut-2.ensures.value) c.try_serve.ensures.ok
