@@ -1,8 +1,12 @@
 -- What the entry for servings checks, and what it then promises.
-use Rattle.std.proofs.Common.{◌≡◌, ℕ, suc, ◌+◌, ◌-◌, ◌%◌, ◌<◌, ◌≤◌, Bool, true, false, cond, ◌&&◌, eqb, ltb, leb, ◌⊎◌, List, length, get_or, sym, refl, ap, ◌∙◌, subst, ap₂, inl, inr, arith}
-use Rattle.std.proofs.lemmas.Bool.{cases_Bool, and_parts, ltb-true, eqb-true}
+use Rattle.std.proofs.Common.{◌≡◌, ℕ, suc, ◌+◌, ◌-◌, ◌%◌, ◌<◌, ◌≤◌, Bool, true, false, cond, ◌&&◌, eqb, ltb, leb, ◌⊎◌, List, length, get_or, sym, refl, ap, ◌∙◌, subst, ap₂, inl, inr, Option, None, Some, Result, Ok, Err, IsErrAnd, arith}
+use Rattle.std.specs.Result.{result_ok, is_err}
+use Rattle.std.specs.Option.{ok_or}
+use Rattle.std.proofs.lemmas.Bool.{cases_Bool, and_parts, ltb-true, eqb-true, true≢false}
 use Rattle.vring.specs.Words.{word}
 use Rattle.vring.specs.Rings.{Ring, available_at, ring_ok, placed_ok}
+use Rattle.vring.specs.Layouts.{ring_of, Placed}
+use Rattle.vring.specs.declared.layout.Layout.{Layout}
 use Rattle.device.specs.Device.{Device}
 use Rattle.model.specs.Serving.{pending, State, serve_times}
 use Rattle.model.specs.Promises.{Sound, waits}
@@ -10,6 +14,9 @@ use Rattle.model.proofs.Serves.{stays_sound, stays_stopped, done_with}
 use Rattle.model.proofs.Asked.{as_asked}
 use Rattle.model.proofs.Tallies.{accounts}
 use Rattle.device.specs.States.{state_ok, device_in, numbers_of}
+use Rattle.serving.specs.Refusals.{refusal_number, said}
+use Rattle.serving.specs.declared.refusal.Refusal.{Refusal}
+use Rattle.serving.specs.declared.refusal.Refusal.TheVariants as why
 use Rattle.serving.specs.Entries.{state_in, refusal, answer, Serves, ServeSays, Promised}
 use Rattle.serving.specs.declared.done.Done.{Done}
 use Rattle.serving.specs.declared.done.Done.TheVariants.{Served, Stopped, Refused}
@@ -27,6 +34,24 @@ unfolding pending
 waits_by r x c s e f h = let k : c + (65536 - s) ≡ word x.memory (available_at r) + 65536 - x.device.served = omega arith in ap (λ y. y % 65536) k
 
 -- ## Refusals
+-- the ring as the entry checks it
+pub placed_in : (r : Ring) (n : ℕ) (o : Option Layout) (a : Result Layout Refusal) (l : Layout) → Placed r n o → o ≡ result_ok a → a ≡ Ok l → (placed_ok r n ≡ true) × (ring_of l ≡ r)
+placed_in r n o a l p e f = subst (Placed r n) (e ∙ ap result_ok f) p
+
+pub not_placed : (r : Ring) (n : ℕ) (o : Option Layout) (a : Result Layout Refusal) (f : Refusal) → Placed r n o → o ≡ result_ok a → a ≡ Err f → placed_ok r n ≡ false
+not_placed r n o a f p e g = subst (Placed r n) (e ∙ ap result_ok g) p
+
+err_of : {f g : Refusal} → ◌≡◌ {A = Result Layout Refusal} (Err f) (Err g) → f ≡ g
+err_of e = cc
+
+pub ring_refused : (o : Option Layout) (a : Result Layout Refusal) (f : Refusal) → a ≡ ok_or o why.Ring → a ≡ Err f → f ≡ why.Ring
+ring_refused None a f p e = err_of (sym e ∙ p)
+ring_refused (Some l) a f p e = absurd (true≢false (sym (ap is_err e) ∙ ap is_err p))
+
+pub says_refusal : (a : Result Done Refusal) (f : Refusal) → IsErrAnd a (λ e. e ≡ f) → said a ≡ Refused (refusal_number f)
+says_refusal (Ok d) f h = absurd h
+says_refusal (Err e) f h = ap (λ x. Refused (refusal_number x)) h
+
 module _ (r : Ring) (m s k : List ℕ) (n : ℕ) where
   pub refusal_ring : placed_ok r (length m) ≡ false → refusal r m s k n ≡ 1
   unfolding refusal

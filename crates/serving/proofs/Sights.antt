@@ -1,5 +1,5 @@
 -- What a look finds, step by step as the code takes it.
-use Rattle.std.proofs.Common.{◌≡◌, ℕ, ◌<◌, ◌≤◌, Bool, true, false, cond, eqb, leb, ◌⊎◌, List, [], ◌++◌, sym, refl, ap, ◌∙◌, Result, Ok, Err, IsOk, IsErr, arith}
+use Rattle.std.proofs.Common.{◌≡◌, ℕ, ◌<◌, ◌≤◌, Bool, true, false, cond, eqb, leb, List, [], ◌++◌, sym, refl, ap, ◌∙◌, Result, Ok, Err, IsOk, IsErr}
 use Rattle.std.specs.Result.{is_err}
 use Rattle.std.proofs.lemmas.Bool.{eq-eqb, ne_eqb, le-leb, lt-leb, true≢false}
 use Rattle.vring.specs.Programs.{Prog, ret, then, pair, Acts, ends, leaves}

@@ -1,5 +1,5 @@
 -- What the entries answer, and what they leave of what they are lent.
-use Rattle.std.specs.Prelude.{◌≡◌, ℕ, zero, suc, ◌+◌, ◌*◌, ◌≤◌, Bool, true, cond, ◌&&◌, ◌⊎◌, List, [], ◌∷◌, length, take, drop, ◌==◌, ◌≢◌, nat_le, nat_lt, slice_index, Option, Some, None}
+use Rattle.std.specs.Prelude.{◌≡◌, ℕ, zero, suc, ◌+◌, ◌*◌, ◌≤◌, Bool, true, cond, ◌&&◌, ◌⊎◌, List, [], ◌∷◌, length, take, drop, ◌≢◌, nat_le, nat_lt, Option, Some, None}
 use Rattle.vring.specs.Rings.{Ring, ring_ok, placed_ok}
 use Rattle.chains.specs.Descriptors.{descriptor_at}
 use Rattle.chains.specs.declared.descriptor.Descriptor.{Descriptor}

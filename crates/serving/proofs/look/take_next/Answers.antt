@@ -1,4 +1,4 @@
-use Rattle.std.proofs.Common.{◌≡◌, false, true, [], ◌∷◌, sym, refl, ap, ◌∙◌, ap₂, rules}
+use Rattle.std.proofs.Common.{◌≡◌, false, [], ◌∷◌, sym, refl, ap, ◌∙◌, ap₂, rules}
 use Rattle.std.specs.Result.{is_ok, is_err}
 use Rattle.vring.specs.Layouts.{ring_of}
 use Rattle.chains.specs.Usable.{usable}

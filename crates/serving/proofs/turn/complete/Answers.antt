@@ -14,7 +14,7 @@ returns g c =
     let n = c.min-n.ensures ∙ ap₂ min c.len.ensures.value c.capacity.ensures in
     let q = c.respond-response.ensures.value ∙ ap (response c.args.kept.now) c.as_slice.ensures.value in
     let sent : take c.min-n.result c.as_slice-2.result.now ≡ take (capacity j.chain) (response c.args.kept.now j.request.items) =
-      ap₂ take n c.as_slice-2.ensures.value ∙ (cut_bytes (capacity j.chain) xs ∙ ap (take (capacity j.chain)) q) in
+    ap₂ take n c.as_slice-2.ensures.value ∙ (cut_bytes (capacity j.chain) xs ∙ ap (take (capacity j.chain)) q) in
     record {
       device = same_device _ _ _ _ (c.respond-response.ensures.after ∙ ap (kept_after c.args.kept.now) c.as_slice.ensures.value) c.requires.running;
       then = c.finish.ensures.then ∙ ap (λ x. leaves acts (finish_prog r c.args.progress.now.served j.head j.chain x) c.args.m.now) sent;

@@ -1,8 +1,7 @@
 use Rattle.std.proofs.Common.{◌≡◌, ◌+◌, ◌-◌, true, false, sym, refl, ap, ◌∙◌, subst, arith}
-use Rattle.vring.specs.Programs.{ends, leaves}
 use Rattle.vring.specs.Layouts.{ring_of}
 use Rattle.device.specs.Responds.{device_of}
-use Rattle.serving.specs.Turns.{turned, run_prog}
+use Rattle.serving.specs.Turns.{turned}
 use Rattle.serving.proofs.Turning.{Turns, run_none, run_ends, run_more}
 use Rattle.serving.proofs.turn.run.Goals as goal
 
