@@ -1,5 +1,6 @@
-use Rattle.std.proofs.Common.{◌++◌, None, string_bytes, refl, sym, ap, ◌∙◌, append-nil}
+use Rattle.std.proofs.Common.{None, string_bytes, refl, append-nil, arith}
 use Rattle.std.proofs.lemmas.Slice.Zip.{either_empty_from_Zip}
+use Rattle.std.proofs.lemmas.Grind.{common_steps}
 use Rattle.std.specs.Iterator.Adapters.{enumerate_count, enumerate_source}
 use Rattle.report.specs.Stores.{name_of}
 use Rattle.machine.proofs.Prints.{changes_end}
@@ -9,5 +10,4 @@ pub returns : goal.returns
 returns c =
     let out = string_bytes c.loop-at.out in
     let left = either_empty_from_Zip (enumerate_source c.loop-at.at-iterator) (enumerate_source c.next.new.self) None refl c.in-None.ensures.steps.0 in
-    let e = changes_end (name_of c.args.store) (enumerate_count c.loop-at.at-iterator) _ _ left in
-    sym (append-nil out) ∙ (ap (λ x. out ++ x) (sym e) ∙ c.loop-at.invariant)
+    grind (arith, common_steps, changes_end (name_of c.args.store) (enumerate_count c.loop-at.at-iterator) _ _ left, append-nil out)

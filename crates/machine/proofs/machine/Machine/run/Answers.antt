@@ -1,7 +1,8 @@
-use Rattle.std.proofs.Common.{◌++◌, Err, string_bytes, sym, ap, ◌∙◌, subst, append-nil}
+use Rattle.std.proofs.Common.{Err, string_bytes, ◌∙◌, subst, append-nil, arith}
 use Rattle.script.specs.Commands.{cmd_of}
 use Rattle.machine.specs.Steps.{step}
-use Rattle.machine.specs.Runs.{Ran, Went, Steps}
+use Rattle.machine.specs.Runs.{Went, Steps}
+use Rattle.std.proofs.lemmas.Grind.{common_steps}
 use Rattle.machine.proofs.Running.{run_went, run_ended, run_end, runs_alike}
 use Rattle.machine.proofs.machine.Machine.run.Goals as goal
 
@@ -23,4 +24,4 @@ pub returns : goal.returns
 returns c =
     let out = string_bytes c.loop-command.out in
     let e = run_end c.args.commands.now c.loop-command.command-index c.loop-command-test.false (c.loop-command.self) in
-    (sym (ap (λ (x : Ran). x.stopped) (sym e) ∙ c.loop-command.invariant.1), ap (λ (x : Ran). x.bench) (sym e) ∙ c.loop-command.invariant.0, sym (append-nil out) ∙ (ap (λ (x : Ran). out ++ x.output) (sym e) ∙ c.loop-command.invariant.2))
+    grind (arith, common_steps, e, append-nil out)
