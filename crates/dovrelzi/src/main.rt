@@ -6,20 +6,17 @@ use machine::machine::Machine;
 use std::io::{IsTerminal, Read};
 use std::process::ExitCode;
 use std::{env, fs, io};
+use thiserror::Error;
 
 // Why the program ends with status 1.
-#[derive(Drop)]
+#[derive(Debug, Drop, Error)]
 enum Failure {
     // The input could not be read, or nothing could be printed.
-    Io(io::Error),
-    // The script was refused, and that was said.
-    Refused,
-}
-
-impl From<io::Error> for Failure {
-    fn from(e: io::Error) -> Failure {
-        Failure::Io(e)
-    }
+    #[error("{0}")]
+    Io(#[from] io::Error),
+    // The script was refused, or there was not enough memory for it.
+    #[error("{0}")]
+    Halt(#[from] Halt),
 }
 
 // What the program takes and prints.
@@ -55,17 +52,8 @@ fn play(rt: &HostRuntime, text: &[u8]) -> Result<(), Failure> {
     let mut machine = Machine::new(heap);
     let played = machine.play(heap, text, &mut out);
     rt.print(out.as_str())?;
-    match played {
-        Ok(()) => Ok(()),
-        Err(Halt::Refused(refusal)) => {
-            eprintln!(rt; "dovrelzi: {refusal}")?;
-            Err(Failure::Refused)
-        }
-        Err(Halt::NoMemory) => {
-            eprintln!(rt; "dovrelzi: out of memory")?;
-            Err(Failure::Refused)
-        }
-    }
+    played?;
+    Ok(())
 }
 
 // Whether the word asks for help.
@@ -93,9 +81,8 @@ fn start(rt: &HostRuntime) -> Result<(), Failure> {
 fn main(rt: HostRuntime) -> ExitCode {
     match start(&rt) {
         Ok(()) => ExitCode::SUCCESS,
-        Err(Failure::Refused) => ExitCode::FAILURE,
-        Err(Failure::Io(e)) => {
-            let _ = eprintln!(rt; "dovrelzi: {e}");
+        Err(failure) => {
+            let _ = eprintln!(rt; "dovrelzi: {failure}");
             ExitCode::FAILURE
         }
     }

@@ -1,18 +1,19 @@
 // Guests that break the rules: the device stops, and changes nothing else.
-use crate::answers::*;
+use crate::compare::same;
 use crate::setup::*;
+use serving::done::Done;
 use std::alloc::{AllocError, Global};
 use std::test::*;
 
 // Checks that the device stops before it has served any, and that a second call changes nothing.
 fn stops(heap: Global, mut s: Setup) -> Result<(), Fail> {
-    let mut want = s.copied(heap)?;
+    let mut want = s.clone()?;
     let served = s.state.first().copied().unwrap_or(0);
     want.put_state(served, 1);
-    is_stopped(s.serve(9))?;
-    s.is_as(&want)?;
-    is_stopped(s.serve(9))?;
-    s.is_as(&want)
+    same(&s.serve(9), &Done::Stopped)?;
+    same(&s, &want)?;
+    same(&s.serve(9), &Done::Stopped)?;
+    same(&s, &want)
 }
 
 // Checks that the device stops at a chain of these two descriptors.
@@ -118,10 +119,11 @@ fn count_runs_backwards(rt: HostRuntime) -> Result<(), Fail> {
 fn bad_behind_good(rt: HostRuntime) -> Result<(), Fail> {
     let mut s = Setup::chain_of(rt.alloc(), readable(40, 2, 1), writable(48, 1))?;
     s.offer(1, 7);
-    let mut want = s.copied(rt.alloc())?;
+    let mut want = s.clone()?;
     want.put(48, &[0]);
     want.mark_used(0, 0, 1);
     want.put_state(1, 1);
-    is_stopped(s.serve(9))?;
-    s.is_as(&want)
+    assert_eq!(rt; s.serve(9), Done::Stopped);
+    assert_eq!(rt; s, want);
+    Ok(())
 }

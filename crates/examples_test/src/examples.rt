@@ -1,6 +1,7 @@
 // Chains that are served.
-use crate::answers::*;
+use crate::compare::same;
 use crate::setup::*;
+use serving::done::Done;
 use std::alloc::{AllocError, Global};
 use std::test::*;
 
@@ -8,19 +9,20 @@ use std::test::*;
 #[test]
 fn reads_a_block(rt: HostRuntime) -> Result<(), Fail> {
     let mut s = Setup::example(rt.alloc())?;
-    let mut want = s.copied(rt.alloc())?;
+    let mut want = s.clone()?;
     want.put(48, BLOCK);
     want.mark_used(0, 0, 17);
     want.put_state(1, 0);
-    is_served(s.serve(1), 0)?;
-    s.is_as(&want)
+    assert_eq!(rt; s.serve(1), Done::Served(0));
+    assert_eq!(rt; s, want);
+    Ok(())
 }
 
 // The same, byte by byte.
 #[test]
 fn reads_a_block_there(rt: HostRuntime) -> Result<(), Fail> {
     let mut s = Setup::example(rt.alloc())?;
-    is_served(s.serve(1), 0)?;
+    assert_eq!(rt; s.serve(1), Done::Served(0));
     assert!(rt; s.memory.len() == 65);
     assert_eq!(rt;
         &s.memory[22..32],
@@ -38,37 +40,39 @@ fn writes_a_block(rt: HostRuntime) -> Result<(), Fail> {
     s.put(40, &[1, 1]);
     s.put(42, b"ABCDEFGHIJKLMNOP");
     s.put(60, &[9, 9, 9, 9, 9]);
-    let mut want = s.copied(rt.alloc())?;
+    let mut want = s.clone()?;
     want.put(60, &[0]);
     want.keep(16, b"ABCDEFGHIJKLMNOP");
     want.mark_used(0, 0, 1);
     want.put_state(1, 0);
-    is_served(s.serve(1), 0)?;
-    s.is_as(&want)
+    assert_eq!(rt; s.serve(1), Done::Served(0));
+    assert_eq!(rt; s, want);
+    Ok(())
 }
 
 // A response that is longer than the capacity is cut off, and its length is said as it is then.
 #[test]
 fn cuts_the_response(rt: HostRuntime) -> Result<(), Fail> {
     let mut s = Setup::chain_of(rt.alloc(), readable(40, 2, 1), writable(48, 4))?;
-    let mut want = s.copied(rt.alloc())?;
+    let mut want = s.clone()?;
     want.put(48, &[0, 16, 17, 18]);
     want.mark_used(0, 0, 4);
     want.put_state(1, 0);
-    is_served(s.serve(1), 0)?;
-    s.is_as(&want)
+    assert_eq!(rt; s.serve(1), Done::Served(0));
+    assert_eq!(rt; s, want);
+    Ok(())
 }
 
 // What is no request, or asks for a block that is not kept, is answered by 255.
 fn answers_255(heap: Global, request: &[u8]) -> Result<(), Fail> {
     let mut s = Setup::example(heap)?;
     s.put(40, request);
-    let mut want = s.copied(heap)?;
+    let mut want = s.clone()?;
     want.put(48, &[255]);
     want.mark_used(0, 0, 1);
     want.put_state(1, 0);
-    is_served(s.serve(1), 0)?;
-    s.is_as(&want)
+    same(&s.serve(1), &Done::Served(0))?;
+    same(&s, &want)
 }
 
 // No code, a write that is too short, and reads past what is kept.
@@ -84,11 +88,12 @@ fn answers_no_request(rt: HostRuntime) -> Result<(), Fail> {
 #[test]
 fn takes_an_empty_part_at_the_end(rt: HostRuntime) -> Result<(), Fail> {
     let mut s = Setup::chain_of(rt.alloc(), readable(40, 2, 1), writable(65, 0))?;
-    let mut want = s.copied(rt.alloc())?;
+    let mut want = s.clone()?;
     want.mark_used(0, 0, 0);
     want.put_state(1, 0);
-    is_served(s.serve(1), 0)?;
-    s.is_as(&want)
+    assert_eq!(rt; s.serve(1), Done::Served(0));
+    assert_eq!(rt; s, want);
+    Ok(())
 }
 
 // Only the lowest two flags count, and `next` only where another descriptor follows.
@@ -107,12 +112,13 @@ fn passes_over_other_flags(rt: HostRuntime) -> Result<(), Fail> {
         next: 0xffff,
     };
     let mut s = Setup::chain_of(rt.alloc(), first, last)?;
-    let mut want = s.copied(rt.alloc())?;
+    let mut want = s.clone()?;
     want.put(48, BLOCK);
     want.mark_used(0, 0, 17);
     want.put_state(1, 0);
-    is_served(s.serve(1), 0)?;
-    s.is_as(&want)
+    assert_eq!(rt; s.serve(1), Done::Served(0));
+    assert_eq!(rt; s, want);
+    Ok(())
 }
 
 // Parts may end where the ring begins, and begin where it ends.
@@ -123,12 +129,13 @@ fn takes_parts_beside_the_ring(rt: HostRuntime) -> Result<(), Fail> {
     s.describe(1, writable(52, 17));
     s.offer(0, 0);
     s.put(18, &[0, 1]);
-    let mut want = s.copied(rt.alloc())?;
+    let mut want = s.clone()?;
     want.put(52, BLOCK);
     want.mark_used(0, 0, 17);
     want.put_state(1, 0);
-    is_served(s.serve(1), 0)?;
-    s.is_as(&want)
+    assert_eq!(rt; s.serve(1), Done::Served(0));
+    assert_eq!(rt; s, want);
+    Ok(())
 }
 
 // A ring of 64 whose one chain has all its descriptors: two readable ones and 62 writable ones of a byte each.
@@ -157,12 +164,13 @@ fn long_chain(heap: Global) -> Result<Setup, AllocError> {
 #[test]
 fn takes_a_full_chain(rt: HostRuntime) -> Result<(), Fail> {
     let mut s = long_chain(rt.alloc())?;
-    let mut want = s.copied(rt.alloc())?;
+    let mut want = s.clone()?;
     want.put(910, BLOCK);
     want.mark_used(0, 0, 17);
     want.put_state(1, 0);
-    is_served(s.serve(1), 0)?;
-    s.is_as(&want)
+    assert_eq!(rt; s.serve(1), Done::Served(0));
+    assert_eq!(rt; s, want);
+    Ok(())
 }
 
 // The counts go on at 0 behind 65,535.
@@ -172,16 +180,17 @@ fn counts_across_the_end(rt: HostRuntime) -> Result<(), Fail> {
     s.put_state(65535, 0);
     s.offer(65535, 0);
     s.offer(0, 0);
-    let mut want = s.copied(rt.alloc())?;
+    let mut want = s.clone()?;
     want.put(48, BLOCK);
     want.mark_used(65535, 0, 17);
     want.put_state(0, 0);
-    is_served(s.serve(1), 1)?;
-    s.is_as(&want)?;
+    assert_eq!(rt; s.serve(1), Done::Served(1));
+    assert_eq!(rt; s, want);
     want.mark_used(0, 0, 17);
     want.put_state(1, 0);
-    is_served(s.serve(1), 0)?;
-    s.is_as(&want)
+    assert_eq!(rt; s.serve(1), Done::Served(0));
+    assert_eq!(rt; s, want);
+    Ok(())
 }
 
 // No more chains are served than a call may, and no more than wait.
@@ -189,15 +198,16 @@ fn counts_across_the_end(rt: HostRuntime) -> Result<(), Fail> {
 fn keeps_the_budget(rt: HostRuntime) -> Result<(), Fail> {
     let mut s = Setup::example(rt.alloc())?;
     s.offer(1, 0);
-    let mut want = s.copied(rt.alloc())?;
-    is_served(s.serve(0), 2)?;
-    s.is_as(&want)?;
+    let mut want = s.clone()?;
+    assert_eq!(rt; s.serve(0), Done::Served(2));
+    assert_eq!(rt; s, want);
     want.put(48, BLOCK);
     want.mark_used(0, 0, 17);
     want.mark_used(1, 0, 17);
     want.put_state(2, 0);
-    is_served(s.serve(1000), 0)?;
-    s.is_as(&want)?;
-    is_served(s.serve(1000), 0)?;
-    s.is_as(&want)
+    assert_eq!(rt; s.serve(1000), Done::Served(0));
+    assert_eq!(rt; s, want);
+    assert_eq!(rt; s.serve(1000), Done::Served(0));
+    assert_eq!(rt; s, want);
+    Ok(())
 }

@@ -2,9 +2,9 @@
 #![tactic(auto)]
 
 #[cfg(test)]
-mod answers;
-#[cfg(test)]
 mod attacks;
+#[cfg(test)]
+mod compare;
 #[cfg(test)]
 mod examples;
 #[cfg(test)]

@@ -4,10 +4,9 @@ ghost use Rattle.std.specs.Prelude.{◌^◌, ◌<◌};
 use serving::done::Done;
 use serving::entries::{begin_anew, serve};
 use std::alloc::{AllocError, Global};
-use std::test::*;
 
 // A ring of `places` descriptors from `begins` on in a memory, and a device's state and contents.
-#[derive(Drop)]
+#[derive(Clone, Debug, PartialEq, Eq, Drop)]
 pub struct Setup {
     places: u16,
     begins: u16,
@@ -51,27 +50,20 @@ pub fn writable(addr: u16, len: u16) -> Descriptor {
 
 // Writes bytes from `at` on, as far as there is place.
 fn put_bytes(into: &mut [u8], at: usize, bytes: &[u8]) {
-    for (i, b) in bytes.iter().enumerate() {
-        let to = at.wrapping_add(i);
-        if to < into.len() {
-            into[to] = *b;
-        }
+    for (to, byte) in into.iter_mut().skip(at).zip(bytes) {
+        *to = *byte;
     }
 }
 
 impl Setup {
     // An empty ring in a memory of `size` bytes, all 0, and a device that keeps 32 bytes, 0 to 31.
     pub fn empty(heap: Global, places: u16, begins: u16, size: usize) -> Result<Setup, AllocError> {
-        let mut kept = Vec::new(heap);
-        for i in 0..32u8 {
-            kept.push(i)?;
-        }
         Ok(Setup {
             places,
             begins,
             memory: vec![in heap; 0; size]?,
             state: vec![in heap; 0, 0]?,
-            kept,
+            kept: (0..32u8).collect(heap)?,
         })
     }
 
@@ -88,17 +80,6 @@ impl Setup {
         s.offer(0, 0);
         s.put(40, &[0, 1]);
         Ok(s)
-    }
-
-    // The same once more.
-    pub fn copied(&self, heap: Global) -> Result<Setup, AllocError> {
-        Ok(Setup {
-            places: self.places,
-            begins: self.begins,
-            memory: self.memory.to_vec(heap)?,
-            state: self.state.to_vec(heap)?,
-            kept: self.kept.to_vec(heap)?,
-        })
     }
 
     // Writes bytes from `at` on.
@@ -165,9 +146,8 @@ impl Setup {
 
     // Sets the device's state.
     pub fn put_state(&mut self, served: u32, stopped: u32) {
-        if self.state.len() == 2 {
-            self.state[0] = served;
-            self.state[1] = stopped;
+        for (to, number) in self.state.iter_mut().zip([served, stopped]) {
+            *to = number;
         }
     }
 
@@ -193,19 +173,5 @@ impl Setup {
     // Resets the device.
     pub fn reset(&mut self) -> Done {
         begin_anew(&mut self.state)
-    }
-
-    // Checks that memory, state and contents are as in `other`.
-    pub fn is_as(&self, other: &Setup) -> Result<(), Fail> {
-        if self.memory.as_slice() != other.memory.as_slice() {
-            return Err(Fail::new("memory"));
-        }
-        if self.state.as_slice() != other.state.as_slice() {
-            return Err(Fail::new("state"));
-        }
-        if self.kept.as_slice() != other.kept.as_slice() {
-            return Err(Fail::new("contents"));
-        }
-        Ok(())
     }
 }

@@ -1,11 +1,12 @@
 -- Commands one after the other.
-use Rattle.std.proofs.Common.{◌≡◌, ℕ, ◌+◌, ◌<◌, ◌≤◌, List, [], ◌++◌, map, length, get_or, drop, Some, None, Err, sym, ap, ◌∙◌, append_assoc}
+use Rattle.std.proofs.Common.{◌≡◌, ℕ, ◌+◌, ◌<◌, ◌≤◌, List, [], ◌++◌, map, length, get_or, drop, None, Err, arith}
+use Rattle.std.proofs.lemmas.Grind.{common_steps}
 use Rattle.std.proofs.lemmas.List.{at_drop_more, at_drop_all}
 use Rattle.script.specs.Commands.{cmd_of}
 use Rattle.script.specs.declared.command.Command.{Command}
 use Rattle.machine.specs.Bench.{Bench}
 use Rattle.machine.specs.Steps.{Step, goes, refuses, step}
-use Rattle.machine.specs.Runs.{Ran, after_step, refusal_line, run, Went, RefusedBy, Steps, Told, Ended, Runs}
+use Rattle.machine.specs.Runs.{Ran, after_step, run, Went, RefusedBy, Steps, Told, Ended, Runs}
 use Rattle.machine.specs.declared.refusal.Refusal.{Refusal}
 use Rattle.machine.specs.declared.halt.Halt.{Halt}
 use Rattle.machine.specs.declared.halt.Halt.TheVariants.{Refused, NoMemory}
@@ -17,18 +18,12 @@ pub record Alike (out : List ℕ) (x : Ran) (out₁ : List ℕ) (y : Ran) : Type
   pub output : out ++ x.output ≡ out₁ ++ y.output
 
 went : (s : Step) (b b₁ : Bench) (others : Bench → Ran) (out out₁ : List ℕ) → Went s b₁ out out₁ → Alike out₁ (others b₁) out (after_step b s others)
-went (goes b₂ o) b b₁ others out out₁ h =
-    record {
-      bench = ap (λ x. (others x).bench) h.0;
-      stopped = ap (λ x. (others x).stopped) h.0;
-      output = ap (λ x. x ++ (others b₁).output) h.1 ∙ (append_assoc out o (others b₁).output ∙ ap (λ x. out ++ (o ++ (others x).output)) h.0);
-    }
+went (goes b₂ o) b b₁ others out out₁ h = record { bench = grind (arith, common_steps); stopped = grind (arith, common_steps); output = grind (arith, common_steps) }
 went (refuses f) b b₁ others out out₁ h = absurd h
 
 refused : (s : Step) (g : Refusal) (h : Halt) (b b₁ : Bench) (others : Bench → Ran) (out out₁ out₂ : List ℕ) → RefusedBy s g b b₁ out out₁ → Told h g out₁ out₂ → Runs (Err h) (after_step b s others) b₁ out out₂
 refused (goes b₂ o) g h b b₁ others out out₁ out₂ r t = absurd r
-refused (refuses f) g (Refused x) b b₁ others out out₁ out₂ r t =
-    (ap Some (sym (t.0 ∙ r.0)), r.1, t.1 ∙ (ap (λ y. y ++ refusal_line g) r.2 ∙ ap (λ y. out ++ refusal_line y) r.0))
+refused (refuses f) g (Refused x) b b₁ others out out₁ out₂ r t = grind (arith, common_steps)
 refused (refuses f) g NoMemory b b₁ others out out₁ out₂ r t = tt
 
 ended : (s : Step) (g h : Halt) (b b₁ : Bench) (others : Bench → Ran) (out out₁ out₂ : List ℕ) → Steps (Err g) s b b₁ out out₁ → Ended g h out₁ out₂ → Runs (Err h) (after_step b s others) b₁ out out₂
@@ -54,5 +49,5 @@ run_end cs i l b = at_drop_all (λ qs. run (map cmd_of qs) b) cs i l
 
 -- the answer of a run, carried over to a run that ends alike
 pub runs_alike : (h : Halt) (x y : Ran) (b : Bench) (out out₀ out₁ : List ℕ) → x.bench ≡ y.bench → x.stopped ≡ y.stopped → out ++ x.output ≡ out₀ ++ y.output → Runs (Err h) x b out out₁ → Runs (Err h) y b out₀ out₁
-runs_alike (Refused f) x y b out out₀ out₁ e s o r = (sym s ∙ r.0, r.1 ∙ e, r.2 ∙ o)
+runs_alike (Refused f) x y b out out₀ out₁ e s o r = grind (arith, common_steps)
 runs_alike NoMemory x y b out out₀ out₁ e s o r = tt

@@ -1,6 +1,8 @@
 -- Many commands, and a whole script.
 use Rattle.std.specs.Prelude.{◌≡◌, ℕ, List, [], ◌∷◌, ◌++◌, Some, None, Ok, Err, Option, Result}
 use Rattle.script.specs.Format.{Cmd, read}
+use Rattle.script.specs.declared.fault.Fault.{Fault}
+use Rattle.script.specs.declared.fault.Fault.TheVariants.{Line as AtLine, NoMemory as Unread}
 use Rattle.report.specs.Lines.{refused}
 use Rattle.machine.specs.Refusals.{number_of, place_of}
 use Rattle.machine.specs.Bench.{Bench}
@@ -56,6 +58,11 @@ abbrev pub Steps : (result : Result (Unit {0}) Halt) → Step → (before after 
 Steps (Ok _) s b c out out₁ = Went s c out out₁
 Steps (Err (Refused f)) s b c out out₁ = RefusedBy s f b c out out₁
 Steps (Err NoMemory) s b c out out₁ = Unit {0}
+
+-- why reading a script ended a run
+abbrev pub halt_of : Fault → Halt
+halt_of (AtLine n) = Refused (Line n)
+halt_of Unread = NoMemory
 
 -- a refusal, whose line was written
 abbrev pub Told : Halt → Refusal → (out out₁ : List ℕ) → Type 0

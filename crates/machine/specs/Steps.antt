@@ -1,5 +1,6 @@
 -- What each command does, and what it prints.
-use Rattle.std.specs.Prelude.{ℕ, zero, suc, ◌+◌, ◌%◌, cond, List, [], ◌∷◌, ◌++◌, length, replicate, Some, None, codes, ◌==◌, nat_le, nat_lt, slice_index}
+use Rattle.std.specs.Prelude.{ℕ, zero, suc, ◌+◌, ◌%◌, cond, List, [], ◌∷◌, ◌++◌, map, length, replicate, Some, None, codes, ◌==◌, nat_le, nat_lt, slice_index}
+use Rattle.std.specs.List.{range_with_len}
 use Rattle.vring.specs.Words.{set_bytes}
 use Rattle.vring.specs.Rings.{Ring, size_ok, ends_at}
 use Rattle.model.specs.Serving.{State, serve_times}
@@ -14,8 +15,7 @@ use Rattle.machine.specs.declared.refusal.Refusal.TheVariants.{Places, RingOutsi
 
 -- the bytes 0, 1, 2 and on from k on, modulo 256, so many
 abbrev pub counted : (k n : ℕ) → List ℕ
-counted k zero = []
-counted k (suc n) = k % 256 ∷ counted (k + 1) n
+counted k n = map (λ i. i % 256) (range_with_len k n)
 
 -- which part of a ring is wrong in a memory of n bytes, and which of a state's numbers
 abbrev pub ring_fault : Ring → (n : ℕ) → Refusal

@@ -1,57 +1,63 @@
 // Which refusal it is, with its number and its place.
 ghost use Rattle.std.specs.Prelude.{◌≡◌, ◌+◌, ◌*◌, ◌<◌, ◌≤◌, length};
 ghost use Rattle.vring.specs.Rings.{size_ok};
+ghost use Rattle.serving.specs.Refusals.{refusal_number};
 ghost use Rattle.machine.specs.Refusals.{number_of, place_of};
-ghost use Rattle.machine.specs.Bench.{bench_of};
 ghost use Rattle.machine.specs.Steps.{ring_fault, state_fault, fault};
 
-use crate::machine::Machine;
+use crate::machine::{Machine, Ring};
 use crate::refusal::Refusal;
+use serving::refusal::Refusal as Refused;
 
 // Whether a ring may have so many places.
+#[tactic(auto, unfolding(vring::specs::Rings::size_ok))]
 fn is_size(places: u64) -> bool
     ensures { result ≡ size_ok places }
 {
     places >= 1 && places <= 64 && 65536 % places == 0
 }
 
-impl Machine {
-    // What is wrong with the ring.
-    fn ring_fault(&self) -> Refusal
-        ensures { result ≡ ring_fault (bench_of self.now).ring (length self.now.memory.items) }
+impl Ring {
+    // What is wrong with the ring, in a memory of `n` bytes.
+    #[tactic(auto, using(crate::proofs::Sizes::size_few))]
+    fn fault(self, n: usize) -> Refusal
+        ensures { result ≡ ring_fault (record { size = self.size; base = self.base }) n }
     {
-        if !is_size(self.places) {
+        if !is_size(self.size) {
             return Refusal::Places;
         }
-        let size = 14 * self.places + 4;
-        let n = self.memory.len() as u64;
-        if size <= n && self.begins <= n - size {
+        let size = 14 * self.size + 4;
+        let n = n as u64;
+        if size <= n && self.base <= n - size {
             Refusal::MemoryTooLong
         } else {
             Refusal::RingOutside
         }
     }
+}
 
-    // What is wrong with the state.
-    fn state_fault(&self) -> Refusal
-        ensures { result ≡ state_fault (bench_of self.now).state }
-    {
-        if self.served < 65536 {
-            Refusal::State(2)
-        } else {
-            Refusal::State(1)
-        }
+// What is wrong with the state.
+fn state_fault(state: [u32; 2]) -> Refusal
+    ensures { result ≡ state_fault state }
+{
+    let [served, _] = state;
+    if served < 65536 {
+        Refusal::State(2)
+    } else {
+        Refusal::State(1)
     }
+}
 
-    // What is wrong, by the number of the refusal.
-    pub fn fault(&self, number: u64, times: u64) -> Refusal
-        ensures { result ≡ fault number times (bench_of self.now) }
+impl Machine {
+    // What is wrong where serving is refused.
+    pub fn fault(&self, refused: Refused, times: u64) -> Refusal
+        ensures { result ≡ fault (refusal_number refused) times self.now }
     {
-        match number {
-            1 => self.ring_fault(),
-            2 => self.state_fault(),
-            3 => Refusal::Kept(self.kept.len() as u64),
-            _ => Refusal::Times(times),
+        match refused {
+            Refused::Ring => self.ring.fault(self.memory.len()),
+            Refused::State => state_fault(self.state),
+            Refused::Contents => Refusal::Kept(self.kept.len() as u64),
+            Refused::Times => Refusal::Times(times),
         }
     }
 }

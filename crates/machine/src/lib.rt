@@ -1,7 +1,6 @@
 // A machine that a script sets up and runs: guest memory, a ring, and a device.
 #![tactic(auto)]
 
-pub mod explain;
 pub mod faults;
 pub mod halt;
 pub mod machine;

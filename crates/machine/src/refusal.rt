@@ -1,22 +1,25 @@
 // Why something was refused.
+use thiserror::Error;
 
-// Each case has a number and a place, by which it is printed.
-#[derive(Clone, Copy)]
+// Each case has a number and a place, by which it is printed, and says in plain words what is wrong.
+#[derive(Clone, Copy, Debug, PartialEq, Eq, Error)]
 pub enum Refusal {
-    // A ring cannot have so many places.
+    #[error("a ring may have 1, 2, 4, 8, 16, 32 or 64 places, and this one has another number")]
     Places,
-    // The ring is not wholly in memory.
+    #[error("the ring does not lie wholly in memory: it takes 14 bytes for each place, and 4 more")]
     RingOutside,
-    // Memory has more than 65,536 bytes.
+    #[error("a memory may have up to 65536 bytes")]
     MemoryTooLong,
-    // The device state is not one; the place says which of its numbers is wrong.
+    // The place says which of its numbers is wrong.
+    #[error("the device state is not two numbers, the first below 65536 and the second 0 or 1")]
     State(u64),
-    // So many bytes are too many to keep.
+    #[error("a device may keep up to 4096 bytes, not {0}")]
     Kept(u64),
-    // So many servings are too many for one call.
+    #[error("one call may ask for up to 1000 servings, not {0}")]
     Times(u64),
-    // This line of the text cannot be read.
+    #[error("line {0} cannot be read (lines count from 0): each line is one of memory N, ring N at N, bytes N: N .., kept N, serve N, anew, piece N")]
     Line(u64),
-    // Bytes from this address on do not lie in memory; in a script that was read they do.
+    // Bytes from this address on; in a script that was read they do lie in memory.
+    #[error("bytes from {0} on do not lie in memory")]
     Outside(u64),
 }

@@ -1,56 +1,49 @@
 // A whole script.
 ghost use Rattle.std.specs.Prelude.{◌≡◌, [], map, string_bytes};
 ghost use Rattle.script.specs.Commands.{cmd_of};
-ghost use Rattle.machine.specs.Bench.{bench_of, start};
-ghost use Rattle.machine.specs.Runs.{run, play, Told, Ended, Runs};
+ghost use Rattle.machine.specs.Bench.{start};
+ghost use Rattle.machine.specs.Runs.{run, play, Ended, Runs};
 
 use crate::halt::Halt;
-use crate::machine::Machine;
-use crate::refusal::Refusal;
-use report::lines;
+use crate::machine::{Machine, Ring};
+use report::lines::Line;
 use script::command::Command;
-use script::fault::Fault;
 use script::parse::parse;
 use std::alloc::Global;
-
-// Writes the refusal's line, with which a run ends.
-fn refuse(refusal: Refusal, out: &mut String) -> Halt
-    ensures { Told result refusal (string_bytes out.old) (string_bytes out.new) }
-{
-    match lines::refused(out, refusal.number(), refusal.place()) {
-        Ok(()) => Halt::Refused(refusal),
-        Err(_) => Halt::NoMemory,
-    }
-}
 
 // Ends a run: a refusal's line is written.
 fn end(halt: Halt, out: &mut String) -> Halt
     ensures { Ended halt result (string_bytes out.old) (string_bytes out.new) }
 {
-    match halt {
-        Halt::Refused(refusal) => refuse(refusal, out),
-        Halt::NoMemory => Halt::NoMemory,
+    let Halt::Refused(refusal) = halt else {
+        return halt;
+    };
+    let line = Line::Refused {
+        what: refusal.number(),
+        at: refusal.place(),
+    };
+    match write!(out, "{line}") {
+        Ok(()) => halt,
+        Err(_) => Halt::NoMemory,
     }
 }
 
 impl Machine {
     // No memory, no ring, and a new device that keeps nothing.
     pub fn new(heap: Global) -> Machine
-        ensures { bench_of result ≡ start }
+        ensures { result ≡ start }
     {
         Machine {
             memory: Vec::new(heap),
-            places: 0,
-            begins: 0,
-            served: 0,
-            stopped: 0,
+            ring: Ring { size: 0, base: 0 },
+            state: [0, 0],
             kept: Vec::new(heap),
         }
     }
 
     // Does what the commands ask, one after the other, up to one that is refused.
     pub fn run(&mut self, heap: Global, commands: &[Command], out: &mut String) -> Result<(), Halt>
-        ensures { Runs result (run (map cmd_of commands.now) (bench_of self.old)) (bench_of self.new) (string_bytes out.old) (string_bytes out.new) }
+        ensures { Runs result (run (map cmd_of commands.now) self.old) self.new (string_bytes out.old) (string_bytes out.new) }
     {
         for command in commands {
             if let Err(halt) = self.step(heap, command, out) {
@@ -62,12 +55,11 @@ impl Machine {
 
     // Reads a script whole, and then does what it says.
     pub fn play(&mut self, heap: Global, text: &[u8], out: &mut String) -> Result<(), Halt>
-        ensures { Runs result (play text.now (bench_of self.old)) (bench_of self.new) (string_bytes out.old) (string_bytes out.new) }
+        ensures { Runs result (play text.now self.old) self.new (string_bytes out.old) (string_bytes out.new) }
     {
         match parse(heap, text) {
             Ok(commands) => self.run(heap, &commands, out),
-            Err(Fault::Line(n)) => Err(refuse(Refusal::Line(n), out)),
-            Err(Fault::NoMemory) => Err(Halt::NoMemory),
+            Err(fault) => Err(end(Halt::from(fault), out)),
         }
     }
 }

@@ -1,49 +1,37 @@
 // What each command does.
-ghost use Rattle.std.specs.Prelude.{◌≡◌, ◌+◌, ◌<◌, ◌≤◌, [], IfOk, vec_len, string_bytes};
+ghost use Rattle.std.specs.Prelude.{◌≡◌, ◌+◌, ◌<◌, ◌≤◌, [], IfOk, OnOk, string_bytes};
 ghost use Rattle.serving.specs.Entries.{refusal, ServeSays};
+ghost use Rattle.serving.specs.Refusals.{said};
 ghost use Rattle.script.specs.Commands.{cmd_of};
 ghost use Rattle.script.specs.Format.{memory as a_memory, bytes_at, kept as some_kept, serve as some_servings, anew, piece as a_piece};
-ghost use Rattle.machine.specs.Bench.{bench_of};
 ghost use Rattle.machine.specs.Steps.{counted, step};
 ghost use Rattle.machine.specs.Runs.{Steps};
 
 use crate::halt::Halt;
-use crate::machine::Machine;
+use crate::machine::{Machine, Ring};
 use crate::print::{write_answer, write_changes, write_part};
 use crate::refusal::Refusal;
 use report::store::Store;
 use script::command::Command;
 use serving::done::Done;
-use serving::entries::{begin_anew, piece, serve};
+use serving::entries::{begin_anew, piece, try_serve};
+use serving::refusal::Refusal as Refused;
 use std::alloc::{AllocError, Global};
 
 // The bytes 0, 1, 2 and on, modulo 256, `n` of them.
 fn count_up(heap: Global, n: u64) -> Result<Vec<u8>, AllocError>
     ensures { IfOk result (λ v. v.items ≡ counted 0 n) }
 {
-    let mut v = Vec::new(heap);
-    for i in 0..n {
-        v.push((i % 256) as u8)?;
-    }
-    Ok(v)
-}
-
-// A copy of some bytes.
-fn copy_of(heap: Global, bytes: &[u8]) -> Result<Vec<u8>, AllocError>
-    ensures { IfOk result (λ v. v.items ≡ bytes.now) }
-{
-    let mut v = Vec::new(heap);
-    v.extend_from_slice(bytes)?;
-    Ok(v)
+    (0..n).map(|i| (i % 256) as u8).collect(heap)
 }
 
 impl Machine {
     // A memory of `n` bytes, all 0.
     fn set_memory(&mut self, heap: Global, n: u64) -> Result<(), Halt>
-        ensures { Steps result (step (a_memory n) (bench_of self.old)) (bench_of self.old) (bench_of self.new) [] [] }
+        ensures { Steps result (step (a_memory n) self.old) self.old self.new [] [] }
     {
         if n > 65536 {
-            return Err(Halt::Refused(Refusal::MemoryTooLong));
+            return Err(Halt::from(Refusal::MemoryTooLong));
         }
         self.memory = vec![in heap; 0; n as usize]?;
         Ok(())
@@ -51,12 +39,12 @@ impl Machine {
 
     // The guest writes bytes.
     fn write_bytes(&mut self, at: u64, bytes: &[u8]) -> Result<(), Halt>
-        ensures { Steps result (step (bytes_at at bytes.now) (bench_of self.old)) (bench_of self.old) (bench_of self.new) [] [] }
+        ensures { Steps result (step (bytes_at at bytes.now) self.old) self.old self.new [] [] }
     {
         let n = self.memory.len() as u64;
         let count = bytes.len() as u64;
         if count > n || at > n - count {
-            return Err(Halt::Refused(Refusal::Outside(at)));
+            return Err(Halt::from(Refusal::Outside(at)));
         }
         let from = at as usize;
         self.memory[from..from + bytes.len()].copy_from_slice(bytes);
@@ -65,46 +53,41 @@ impl Machine {
 
     // The device keeps `n` bytes.
     fn set_kept(&mut self, heap: Global, n: u64) -> Result<(), Halt>
-        ensures { Steps result (step (some_kept n) (bench_of self.old)) (bench_of self.old) (bench_of self.new) [] [] }
+        ensures { Steps result (step (some_kept n) self.old) self.old self.new [] [] }
     {
         if n > 4096 {
-            return Err(Halt::Refused(Refusal::Kept(n)));
+            return Err(Halt::from(Refusal::Kept(n)));
         }
         self.kept = count_up(heap, n)?;
         Ok(())
     }
 
     // At most `times` servings.
-    fn serve_all(&mut self, times: u64) -> Done
-        ensures does { ServeSays (refusal (bench_of self.old).ring self.old.memory.items (bench_of self.old).state self.old.kept.items times) (bench_of self.old).ring self.old.memory.items (bench_of self.old).state self.old.kept.items times result self.new.memory.items (bench_of self.new).state self.new.kept.items }
-        ensures ring { (bench_of self.new).ring ≡ (bench_of self.old).ring }
-        ensures memory { vec_len self.new.memory ≡ vec_len self.old.memory }
-        ensures kept { vec_len self.new.kept ≡ vec_len self.old.kept }
+    fn serve_all(&mut self, times: u64) -> Result<Done, Refused>
+        ensures does { ServeSays (refusal self.old.ring self.old.memory self.old.state self.old.kept times) self.old.ring self.old.memory self.old.state self.old.kept times (said result) self.new.memory self.new.state self.new.kept }
+        ensures ok { OnOk result (refusal self.old.ring self.old.memory self.old.state self.old.kept times ≡ 0) }
+        ensures ring { self.new.ring ≡ self.old.ring }
     {
-        let mut state = [self.served, self.stopped];
-        let done = serve(
-            self.places,
-            self.begins,
+        try_serve(
+            self.ring.size,
+            self.ring.base,
             &mut self.memory,
-            &mut state,
+            &mut self.state,
             &mut self.kept,
             times,
-        );
-        self.served = state[0];
-        self.stopped = state[1];
-        done
+        )
     }
 
     // At most `times` servings; what changed and what is answered is printed.
     fn serve_chains(&mut self, heap: Global, times: u64, out: &mut String) -> Result<(), Halt>
-        ensures { Steps result (step (some_servings times) (bench_of self.old)) (bench_of self.old) (bench_of self.new) (string_bytes out.old) (string_bytes out.new) }
+        ensures { Steps result (step (some_servings times) self.old) self.old self.new (string_bytes out.old) (string_bytes out.new) }
     {
-        let memory = copy_of(heap, &self.memory)?;
-        let kept = copy_of(heap, &self.kept)?;
-        let done = self.serve_all(times);
-        if let Done::Refused(number) = done {
-            return Err(Halt::Refused(self.fault(number, times)));
-        }
+        let memory = self.memory.to_vec(heap)?;
+        let kept = self.kept.to_vec(heap)?;
+        let done = match self.serve_all(times) {
+            Ok(done) => done,
+            Err(refused) => return Err(Halt::from(self.fault(refused, times))),
+        };
         write_changes(out, Store::Memory, &memory, &self.memory)?;
         write_changes(out, Store::Kept, &kept, &self.kept)?;
         write_answer(out, done)?;
@@ -113,33 +96,33 @@ impl Machine {
 
     // The device is reset.
     fn reset(&mut self, out: &mut String) -> Result<(), Halt>
-        ensures { Steps result (step (anew) (bench_of self.old)) (bench_of self.old) (bench_of self.new) (string_bytes out.old) (string_bytes out.new) }
+        ensures { Steps result (step (anew) self.old) self.old self.new (string_bytes out.old) (string_bytes out.new) }
     {
-        let mut state = [self.served, self.stopped];
-        let done = begin_anew(&mut state);
-        self.served = state[0];
-        self.stopped = state[1];
+        let done = begin_anew(&mut self.state);
         write_answer(out, done)?;
         Ok(())
     }
 
     // The part of memory that a descriptor names is printed.
     fn show_piece(&self, i: u64, out: &mut String) -> Result<(), Halt>
-        ensures { Steps result (step (a_piece i) (bench_of self.now)) (bench_of self.now) (bench_of self.now) (string_bytes out.old) (string_bytes out.new) }
+        ensures { Steps result (step (a_piece i) self.now) self.now self.now (string_bytes out.old) (string_bytes out.new) }
     {
-        write_part(out, i, piece(self.places, self.begins, &self.memory, i))?;
+        let part = piece(self.ring.size, self.ring.base, &self.memory, i);
+        write_part(out, i, part)?;
         Ok(())
     }
 
     // Does what a command asks.
     pub fn step(&mut self, heap: Global, command: &Command, out: &mut String) -> Result<(), Halt>
-        ensures { Steps result (step (cmd_of command.now) (bench_of self.old)) (bench_of self.old) (bench_of self.new) (string_bytes out.old) (string_bytes out.new) }
+        ensures { Steps result (step (cmd_of command.now) self.old) self.old self.new (string_bytes out.old) (string_bytes out.new) }
     {
         match command {
             Command::Memory(n) => self.set_memory(heap, *n),
             Command::Ring { size, base } => {
-                self.places = *size;
-                self.begins = *base;
+                self.ring = Ring {
+                    size: *size,
+                    base: *base,
+                };
                 Ok(())
             }
             Command::Bytes { at, bytes } => self.write_bytes(*at, bytes),

@@ -3,7 +3,6 @@ pub mod Cuts
 pub mod Rows
 pub mod Says
 pub mod Texts
-pub mod Spaces
 pub mod Frees
 pub mod Trips
 pub mod Bounds

@@ -1,11 +1,11 @@
 -- How commands are written.
-use Rattle.std.specs.Prelude.{ℕ, List, [], ◌∷◌, ◌++◌, codes, decimal}
+use Rattle.std.specs.Prelude.{ℕ, List, ◌∷◌, ◌++◌, codes, decimal}
+use Rattle.std.specs.List.{flat_map}
 use Rattle.script.specs.Format.{Cmd, memory, ring, bytes_at, kept, serve, anew, piece}
 
 -- numbers, each with a space before it
 abbrev pub spaced : List ℕ → List ℕ
-spaced [] = []
-spaced (n ∷ ns) = 32 ∷ (decimal n ++ spaced ns)
+spaced ns = flat_map (λ n. 32 ∷ decimal n) ns
 
 -- ## Commands
 

@@ -1,54 +1,51 @@
 // Commands as text.
-ghost use Rattle.std.specs.Prelude.{◌≡◌, ◌++◌, IfOk, string_bytes, OnOk};
+ghost use Rattle.std.specs.Prelude.{◌≡◌, ◌++◌, Some, string_bytes, OnOk};
 ghost use Rattle.script.specs.Commands.{cmd_of};
-ghost use Rattle.script.specs.Format.{bytes_at};
 ghost use Rattle.script.specs.Shown.{spaced, shown};
 
 use crate::command::Command;
-use std::alloc::{AllocError, Global};
 use std::fmt;
+
+// Bytes as text: each as its number, with a space before it.
+#[derive(Clone, Copy)]
+pub struct Spaced<'a>(pub &'a [u8]);
+
+impl<'a> fmt::Display for Spaced<'a> {
+    ghost output = { λ s. Some (spaced s.0.now) };
+
+    fn fmt<W: fmt::Write>(&self, f: &mut fmt::Formatter<W>) -> fmt::Result {
+        for b in self.0 {
+            write!(f, " {b}")?;
+        }
+        Ok(())
+    }
+}
+
+// A command as its line, without the line's end.
+impl fmt::Display for Command {
+    ghost output = { λ c. Some (shown (cmd_of c)) };
+
+    fn fmt<W: fmt::Write>(&self, f: &mut fmt::Formatter<W>) -> fmt::Result {
+        match self {
+            Command::Memory(n) => write!(f, "memory {n}"),
+            Command::Ring { size, base } => write!(f, "ring {size} at {base}"),
+            Command::Bytes { at, bytes } => {
+                let bytes = Spaced(bytes);
+                write!(f, "bytes {at}:{bytes}")
+            }
+            Command::Kept(n) => write!(f, "kept {n}"),
+            Command::Serve(n) => write!(f, "serve {n}"),
+            Command::Anew => write!(f, "anew"),
+            Command::Piece(n) => write!(f, "piece {n}"),
+        }
+    }
+}
 
 // Writes bytes, each with a space before it.
 pub fn write_bytes(out: &mut String, bytes: &[u8]) -> fmt::Result
     ensures { OnOk result (string_bytes out.new ≡ string_bytes out.old ++ spaced bytes.now) }
 {
-    for b in bytes {
-        write!(out, " {b}")?;
-    }
+    let bytes = Spaced(bytes);
+    write!(out, "{bytes}")?;
     Ok(())
-}
-
-// Writes the command that puts bytes at a place.
-fn write_row(out: &mut String, at: u64, bytes: &[u8]) -> fmt::Result
-    ensures { OnOk result (string_bytes out.new ≡ string_bytes out.old ++ shown (bytes_at at bytes.now)) }
-{
-    write!(out, "bytes {at}:")?;
-    write_bytes(out, bytes)
-}
-
-// Writes a command as its line, without the line's end.
-pub fn write_command(out: &mut String, command: &Command) -> fmt::Result
-    ensures { OnOk result (string_bytes out.new ≡ string_bytes out.old ++ shown (cmd_of command.now)) }
-{
-    match command {
-        Command::Memory(n) => write!(out, "memory {n}")?,
-        Command::Ring { size, base } => write!(out, "ring {size} at {base}")?,
-        Command::Bytes { at, bytes } => write_row(out, *at, bytes.as_slice())?,
-        Command::Kept(n) => write!(out, "kept {n}")?,
-        Command::Serve(n) => write!(out, "serve {n}")?,
-        Command::Anew => write!(out, "anew")?,
-        Command::Piece(n) => write!(out, "piece {n}")?,
-    }
-    Ok(())
-}
-
-// A command as its line, without the line's end.
-pub fn print(heap: Global, command: &Command) -> Result<String, AllocError>
-    ensures { IfOk result (λ s. string_bytes s ≡ shown (cmd_of command.now)) }
-{
-    let mut out = String::new(heap);
-    match write_command(&mut out, command) {
-        Ok(()) => Ok(out),
-        Err(_) => Err(AllocError),
-    }
 }

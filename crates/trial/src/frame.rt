@@ -2,7 +2,7 @@
 use crate::random::Random;
 
 // A ring of `n` descriptors from `base` on, in a memory of `size` bytes.
-#[derive(Clone, Copy)]
+#[derive(Clone, Copy, PartialEq, Eq)]
 pub struct Frame {
     pub n: u16,
     pub base: u16,

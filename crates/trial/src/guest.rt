@@ -1,11 +1,17 @@
 // A guest with its memory, and the device that it talks to.
+use crate::bytes::{put_bytes, put_number};
+use crate::descriptor::{Descriptor, Field};
 use crate::frame::Frame;
 use crate::random::Random;
+use serving::done::Done;
+use serving::entries::serve;
 use std::alloc::{AllocError, Global};
 
-// All that a call is lent; `places` and `begins` are what it is told of the ring.
-#[derive(Drop)]
+// All that a call is lent; `places` and `begins` are what it is told of the ring. What the guest does follows from its
+// random numbers.
+#[derive(Clone, PartialEq, Eq, Drop)]
 pub struct Guest {
+    pub random: Random,
     pub frame: Frame,
     pub places: u64,
     pub begins: u64,
@@ -14,72 +20,37 @@ pub struct Guest {
     pub kept: Vec<u8>,
 }
 
-// A descriptor, as the guest writes it.
-#[derive(Clone, Copy)]
-pub struct Descriptor {
-    pub addr: u16,
-    pub len: u16,
-    pub flags: u16,
-    pub next: u16,
-}
-
-// Makes each byte a random one.
-fn scatter(bytes: &mut [u8], r: &mut Random) {
-    for b in bytes.iter_mut() {
-        *b = r.byte();
-    }
-}
-
 impl Guest {
-    // A guest with nothing.
-    pub fn new(heap: Global) -> Guest {
-        Guest {
-            frame: Frame {
-                n: 1,
-                base: 0,
-                size: 0,
-            },
-            places: 0,
-            begins: 0,
-            memory: Vec::new(heap),
-            state: Vec::new(heap),
-            kept: Vec::new(heap),
-        }
+    // Guest `number`: a ring, a memory and a device, all random.
+    pub fn any(heap: Global, number: u64) -> Result<Guest, AllocError> {
+        let mut r = Random::new(number);
+        let frame = Frame::any(&mut r);
+        let memory = r.bytes(heap, frame.size as usize)?;
+        let kept_len = any_kept_len(&mut r);
+        let kept = r.bytes(heap, kept_len as usize)?;
+        let served = starting_count(&mut r);
+        let stopped = r.once_in(100);
+        Ok(Guest {
+            random: r,
+            frame,
+            places: frame.n as u64,
+            begins: frame.base as u64,
+            memory,
+            state: vec![in heap; u32::from(served), u32::from(stopped)]?,
+            kept,
+        })
     }
 
-    // A ring, a memory and a device, all random.
-    pub fn start(&mut self, r: &mut Random) -> Result<(), AllocError> {
-        self.frame = Frame::any(r);
-        self.places = self.frame.n as u64;
-        self.begins = self.frame.base as u64;
-        self.memory.resize(self.frame.size as usize, 0)?;
-        scatter(&mut self.memory, r);
-        let kept = r.pick(&[0, 15, 16, 17, 32, 32, 48, 64, 64, 256]);
-        let kept = if r.once_in(200) { 4096 } else { kept };
-        self.kept.resize(kept as usize, 0)?;
-        scatter(&mut self.kept, r);
-        self.state.clear();
-        self.state.push(starting_count(r) as u32)?;
-        self.state.push(if r.once_in(100) { 1 } else { 0 })?;
-        Ok(())
-    }
-
-    // Becomes the same as another.
-    pub fn copy_from(&mut self, other: &Guest) -> Result<(), AllocError> {
-        self.frame = other.frame;
-        self.places = other.places;
-        self.begins = other.begins;
-        self.memory.clear();
-        self.memory.extend_from_slice(&other.memory)?;
-        self.state.clear();
-        self.state.extend_from_slice(&other.state)?;
-        self.kept.clear();
-        self.kept.extend_from_slice(&other.kept)
-    }
-
-    // Whether memory, state and contents are the same as another's.
-    pub fn is_as(&self, other: &Guest) -> bool {
-        self.memory == other.memory && self.state == other.state && self.kept == other.kept
+    // Serves by the entry.
+    pub fn serve(&mut self, times: u64) -> Done {
+        serve(
+            self.places,
+            self.begins,
+            &mut self.memory,
+            &mut self.state,
+            &mut self.kept,
+            times,
+        )
     }
 
     // How many chains the device has served, modulo 65,536.
@@ -92,35 +63,33 @@ impl Guest {
         self.state.last().copied().unwrap_or(0) != 0
     }
 
+    // Where a part of `len` bytes may stand.
+    pub fn place(&mut self, len: u16) -> u16 {
+        self.frame.place(&mut self.random, len)
+    }
+
     // Sets one byte, where there is one.
     pub fn put_byte(&mut self, at: u32, byte: u8) {
-        let at = at as usize;
-        if at < self.memory.len() {
-            self.memory[at] = byte;
-        }
+        put_bytes(&mut self.memory, at as usize, &[byte]);
     }
 
     // Sets a number.
-    pub fn put_number(&mut self, at: u32, number: u16) {
-        let [low, high] = number.to_le_bytes();
-        self.put_byte(at, low);
-        self.put_byte(at.wrapping_add(1), high);
+    fn put_number(&mut self, at: u32, number: u16) {
+        put_number(&mut self.memory, at as usize, number);
     }
 
-    // Sets one field of descriptor `i`: 0 is the address, 1 the length, 2 the flags, 3 the next one.
-    pub fn put_field(&mut self, i: u16, field: u8, number: u16) {
-        self.put_number(
-            self.frame.descriptor_at(i).wrapping_add(2 * field as u32),
-            number,
-        );
+    // Sets one number of descriptor `i`.
+    pub fn put_field(&mut self, i: u16, field: Field, number: u16) {
+        let at = self.frame.descriptor_at(i).wrapping_add(field.offset());
+        self.put_number(at, number);
     }
 
     // Sets descriptor `i`.
     pub fn describe(&mut self, i: u16, d: Descriptor) {
-        self.put_field(i, 0, d.addr);
-        self.put_field(i, 1, d.len);
-        self.put_field(i, 2, d.flags);
-        self.put_field(i, 3, d.next);
+        self.put_field(i, Field::Addr, d.addr);
+        self.put_field(i, Field::Len, d.len);
+        self.put_field(i, Field::Flags, d.flags);
+        self.put_field(i, Field::Next, d.next);
     }
 
     // Sets the `k`-th head.
@@ -130,11 +99,30 @@ impl Guest {
 
     // Sets the available count, so that so many chains wait.
     pub fn let_wait(&mut self, waiting: u16) {
-        self.put_number(
-            self.frame.available_at(),
-            self.served().wrapping_add(waiting),
-        );
+        let count = self.served().wrapping_add(waiting);
+        self.put_number(self.frame.available_at(), count);
     }
+
+    // The descriptor whose part is asked for; now and then it is none.
+    pub fn asked(&mut self) -> u64 {
+        match self.random.below(10) {
+            0 => self.random.any(),
+            1 => self.places,
+            _ => self.random.up_to(self.frame.n) as u64,
+        }
+    }
+
+    // Lets any number of chains wait.
+    pub fn let_any_wait(&mut self) {
+        let waiting = self.random.up_to(self.frame.n);
+        self.let_wait(waiting);
+    }
+}
+
+// How many bytes a device keeps.
+fn any_kept_len(r: &mut Random) -> u16 {
+    let len = r.pick(&[0, 15, 16, 17, 32, 32, 48, 64, 64, 256]);
+    if r.once_in(200) { 4096 } else { len }
 }
 
 // A count of served chains: any, or one that soon goes on at 0.

@@ -2,7 +2,9 @@
 // The first argument says how many, and the second the number of the first one.
 #![tactic(auto)]
 
+mod bytes;
 mod contest;
+mod descriptor;
 mod frame;
 mod guest;
 mod offers;
@@ -10,11 +12,13 @@ mod random;
 mod reading;
 mod refusals;
 mod spoils;
+mod tally;
 
 use anyhow::anyhow;
-use contest::{Contest, Tally};
+use contest::hold;
 use std::alloc::{AllocError, Global};
 use std::env;
+use tally::Tally;
 
 // The number that an argument says, if there is one.
 fn number_or(word: Option<String>, default: u64) -> anyhow::Result<u64> {
@@ -26,27 +30,19 @@ fn number_or(word: Option<String>, default: u64) -> anyhow::Result<u64> {
 
 // Tries so many memories.
 fn hold_all(heap: Global, count: u64, first: u64) -> Result<Tally, AllocError> {
-    let mut contest = Contest::new(heap);
+    let mut tally = Tally::default();
     for i in 0..count {
-        contest.hold(first.wrapping_add(i))?;
+        hold(heap, first.wrapping_add(i), &mut tally)?;
     }
-    Ok(contest.tally)
+    Ok(tally)
 }
 
 // Says what was seen.
-fn say(rt: &HostRuntime, t: &Tally) -> anyhow::Result<()> {
-    if let Some(number) = t.first {
+fn say(rt: &HostRuntime, tally: &Tally) -> anyhow::Result<()> {
+    if let Some(number) = tally.first {
         println!(rt; "memory {number} is the first at which they differ")?;
     }
-    let memories = t.memories;
-    let served = t.served;
-    let stopped = t.stopped;
-    let reset = t.reset;
-    let refused = t.refused;
-    let differ = t.differ;
-    println!(rt;
-        "{memories} memories: {served} chains served, {stopped} stopped, {reset} reset, {refused} refused, {differ} differ"
-    )?;
+    println!(rt; "{tally}")?;
     Ok(())
 }
 

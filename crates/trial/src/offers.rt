@@ -1,5 +1,6 @@
 // Chains that a guest offers, put together by the rules.
-use crate::guest::{Descriptor, Guest};
+use crate::descriptor::Descriptor;
+use crate::guest::Guest;
 use crate::random::Random;
 
 // A request: its first two bytes, and its length. The other bytes are random.
@@ -76,32 +77,31 @@ fn share(r: &mut Random, left: u16, parts: u16) -> u16 {
 // The flags of a descriptor; the bits that do not count are random in half of them.
 fn flags(r: &mut Random, has_next: bool, is_writable: bool) -> u16 {
     let other = if r.once_in(2) { r.word() & 0xfffc } else { 0 };
-    let next = if has_next { 1 } else { 0 };
-    let writable = if is_writable { 2 } else { 0 };
-    other | next | writable
+    other | u16::from(has_next) | u16::from(is_writable) << 1
 }
 
-// A chain that is being written: `at` of its `len` descriptors are, and they stand from `from` on in the order.
-#[derive(Clone, Copy)]
-struct Draft {
+// A chain that a guest is writing: `at` of its `len` descriptors are, and they stand from `from` on in the order.
+#[derive(Drop)]
+struct Draft<'a> {
+    guest: &'a mut Guest,
     order: Order,
     from: u16,
     len: u16,
     at: u16,
 }
 
-impl Draft {
+impl Draft<'_> {
     // Writes the next descriptor.
-    fn add(&mut self, g: &mut Guest, r: &mut Random, addr: u16, len: u16, is_writable: bool) {
+    fn add(&mut self, addr: u16, len: u16, is_writable: bool) {
         let i = self.from.wrapping_add(self.at);
         let has_next = self.at.wrapping_add(1) < self.len;
         let next = if has_next {
             self.order.at(i.wrapping_add(1))
         } else {
-            r.pick(&[0, 1, 63, 64, 65535])
+            self.guest.random.pick(&[0, 1, 63, 64, 65535])
         };
-        let flags = flags(r, has_next, is_writable);
-        g.describe(
+        let flags = flags(&mut self.guest.random, has_next, is_writable);
+        self.guest.describe(
             self.order.at(i),
             Descriptor {
                 addr,
@@ -114,36 +114,39 @@ impl Draft {
     }
 
     // Writes so many readable descriptors, which have a request in them.
-    fn add_request(&mut self, g: &mut Guest, r: &mut Random, parts: u16) {
-        let request = Request::any(r, g.kept.len());
+    fn add_request(&mut self, parts: u16) {
+        let kept = self.guest.kept.len();
+        let request = Request::any(&mut self.guest.random, kept);
         let mut done = 0u16;
         for i in 0..parts {
-            let len = share(r, request.len.saturating_sub(done), parts - i);
-            let addr = g.frame.place(r, len);
+            let left = request.len.saturating_sub(done);
+            let len = share(&mut self.guest.random, left, parts - i);
+            let addr = self.guest.place(len);
             for j in 0..len {
-                let byte = request.byte(r, done.wrapping_add(j));
-                g.put_byte(addr as u32 + j as u32, byte);
+                let byte = request.byte(&mut self.guest.random, done.wrapping_add(j));
+                self.guest.put_byte(addr as u32 + j as u32, byte);
             }
-            self.add(g, r, addr, len, false);
+            self.add(addr, len, false);
             done = done.wrapping_add(len);
         }
     }
 
     // Writes so many descriptors of 4,096 bytes each.
-    fn add_lengths(&mut self, g: &mut Guest, r: &mut Random, parts: u16, is_writable: bool) {
+    fn add_lengths(&mut self, parts: u16, is_writable: bool) {
         for _ in 0..parts {
-            let addr = g.frame.place(r, 4096);
-            self.add(g, r, addr, 4096, is_writable);
+            let addr = self.guest.place(4096);
+            self.add(addr, 4096, is_writable);
         }
     }
 
     // Writes so many writable descriptors.
-    fn add_capacity(&mut self, g: &mut Guest, r: &mut Random, parts: u16) {
+    fn add_capacity(&mut self, parts: u16) {
+        let r = &mut self.guest.random;
         let mut left = r.pick(&[17, 17, 17, 17, 18, 40, 1, 1, 0, 4, 16]);
         for i in 0..parts {
-            let len = share(r, left, parts - i);
-            let addr = g.frame.place(r, len);
-            self.add(g, r, addr, len, true);
+            let len = share(&mut self.guest.random, left, parts - i);
+            let addr = self.guest.place(len);
+            self.add(addr, len, true);
             left = left.saturating_sub(len);
         }
     }
@@ -172,47 +175,51 @@ fn readable_len(r: &mut Random, len: u16) -> u16 {
     1u16.saturating_add(r.below(len - 1))
 }
 
-// Writes a chain from place `from` of the order on, and says how many descriptors it has.
-fn write_chain(g: &mut Guest, r: &mut Random, order: Order, from: u16) -> u16 {
-    let most = g.frame.n.saturating_sub(from);
-    let long = if most > LONG && g.frame.behind() >= 4096 {
-        LONG
-    } else {
-        0
-    };
-    let short = chain_len(r, most.saturating_sub(long));
-    let len = short.saturating_add(long);
-    let readable = readable_len(r, short);
-    let written = if r.once_in(2) { long } else { 0 };
-    let mut draft = Draft {
-        order,
-        from,
-        len,
-        at: 0,
-    };
-    draft.add_request(g, r, readable);
-    draft.add_lengths(g, r, long.saturating_sub(written), false);
-    draft.add_capacity(g, r, short.saturating_sub(readable));
-    draft.add_lengths(g, r, written, true);
-    len
-}
-
-// Makes chains of all descriptors of the ring, and offers them: the first one at each place that is left over.
-pub fn offer_chains(g: &mut Guest, r: &mut Random) {
-    let n = g.frame.n;
-    let order = Order::any(r, n);
-    let served = g.served();
-    let mut from = 0u16;
-    for k in 0..n {
-        g.put_head(served.wrapping_add(k), order.at(from % n.max(1)));
-        if from < n {
-            from = from.saturating_add(write_chain(g, r, order, from));
-        }
+impl Guest {
+    // Writes a chain from place `from` of the order on, and says how many descriptors it has.
+    fn write_chain(&mut self, order: Order, from: u16) -> u16 {
+        let most = self.frame.n.saturating_sub(from);
+        let long = if most > LONG && self.frame.behind() >= 4096 {
+            LONG
+        } else {
+            0
+        };
+        let r = &mut self.random;
+        let short = chain_len(r, most.saturating_sub(long));
+        let len = short.saturating_add(long);
+        let readable = readable_len(r, short);
+        let written = if r.once_in(2) { long } else { 0 };
+        let mut draft = Draft {
+            guest: self,
+            order,
+            from,
+            len,
+            at: 0,
+        };
+        draft.add_request(readable);
+        draft.add_lengths(long.saturating_sub(written), false);
+        draft.add_capacity(short.saturating_sub(readable));
+        draft.add_lengths(written, true);
+        len
     }
-    let waiting = match r.below(4) {
-        0 => 1,
-        1 => n,
-        _ => r.up_to(n),
-    };
-    g.let_wait(waiting);
+
+    // Makes chains of all descriptors of the ring, and offers them: the first one at each place that is left over.
+    pub fn offer_chains(&mut self) {
+        let n = self.frame.n;
+        let order = Order::any(&mut self.random, n);
+        let served = self.served();
+        let mut from = 0u16;
+        for k in 0..n {
+            self.put_head(served.wrapping_add(k), order.at(from % n.max(1)));
+            if from < n {
+                from = from.saturating_add(self.write_chain(order, from));
+            }
+        }
+        let waiting = match self.random.below(4) {
+            0 => 1,
+            1 => n,
+            _ => self.random.up_to(n),
+        };
+        self.let_wait(waiting);
+    }
 }

@@ -1,7 +1,8 @@
 // Numbers that look random, and are the same in each run.
+use std::alloc::{AllocError, Global};
 
 // A generator: each number follows from the one before.
-#[derive(Drop)]
+#[derive(Clone, Copy, PartialEq, Eq)]
 pub struct Random {
     state: u64,
 }
@@ -12,31 +13,31 @@ impl Random {
         let mut r = Random {
             state: number.wrapping_mul(0xd134_2543_de82_ef95),
         };
-        let _ = r.next();
+        let _ = r.any();
         r
     }
 
-    // The next 64 bits.
-    fn next(&mut self) -> u64 {
+    // Any 64 bits: the next ones.
+    pub fn any(&mut self) -> u64 {
         self.state = self.state.wrapping_add(0x9e37_79b9_7f4a_7c15);
         let a = (self.state ^ (self.state >> 30)).wrapping_mul(0xbf58_476d_1ce4_e5b9);
         let b = (a ^ (a >> 27)).wrapping_mul(0x94d0_49bb_1331_11eb);
         b ^ (b >> 31)
     }
 
-    // Any 64 bits.
-    pub fn any(&mut self) -> u64 {
-        self.next()
-    }
-
     // Any byte.
     pub fn byte(&mut self) -> u8 {
-        (self.next() & 0xff) as u8
+        (self.any() & 0xff) as u8
+    }
+
+    // So many bytes, each any.
+    pub fn bytes(&mut self, heap: Global, len: usize) -> Result<Vec<u8>, AllocError> {
+        (0..len).map(|_| self.byte()).collect(heap)
     }
 
     // Any two-byte number.
     pub fn word(&mut self) -> u16 {
-        (self.next() & 0xffff) as u16
+        (self.any() & 0xffff) as u16
     }
 
     // A number below `n`, or 0 where there is none.
@@ -44,12 +45,12 @@ impl Random {
         if n == 0 {
             return 0;
         }
-        (self.next() % n as u64) as u16
+        (self.any() % n as u64) as u16
     }
 
     // A number up to `n`.
     pub fn up_to(&mut self, n: u16) -> u16 {
-        (self.next() % (n as u64 + 1)) as u16
+        (self.any() % (n as u64 + 1)) as u16
     }
 
     // True once in `n` times.

@@ -1,16 +1,12 @@
 // A plain reading of the rules of the ring, for the entries to be held to.
-ghost use Rattle.std.specs.Prelude.{◌<◌};
+ghost use Rattle.std.specs.Prelude.{◌^◌, ◌<◌};
 
+use crate::bytes::{number, put_bytes, put_number};
+use crate::descriptor::Descriptor;
+use crate::guest::Guest;
+use serving::done::Done;
 use std::alloc::{AllocError, Global};
-
-// What a call answers.
-#[derive(Clone, Copy, PartialEq, Eq)]
-pub enum Answer {
-    Served(u64),
-    Stopped,
-    Anew,
-    Refused(u64),
-}
+use std::ops::Range;
 
 // A ring of so many places, which begins there.
 #[derive(Clone, Copy)]
@@ -38,42 +34,41 @@ struct Device {
 impl Device {
     // The device that a state says, if it says one.
     fn read_from(state: &[u32]) -> Option<Device> {
-        if state.len() != 2 || state[0] >= 65536 || state[1] > 1 {
-            return None;
+        match state {
+            [served, stopped] if *served < 65536 && *stopped <= 1 => Some(Device {
+                served: *served as u16,
+                has_stopped: *stopped == 1,
+            }),
+            _ => None,
         }
-        Some(Device {
-            served: state[0] as u16,
-            has_stopped: state[1] == 1,
-        })
     }
 
     // Sets the two numbers of a state.
     fn write_to(self, state: &mut [u32]) {
-        if state.len() == 2 {
-            state[0] = self.served as u32;
-            state[1] = if self.has_stopped { 1 } else { 0 };
+        if let [served, stopped] = state {
+            *served = u32::from(self.served);
+            *stopped = u32::from(self.has_stopped);
         }
     }
 }
 
-// The number of two bytes.
-fn number(memory: &[u8], at: usize) -> u16 {
-    let low = memory.get(at).copied().unwrap_or(0);
-    let high = memory.get(at.wrapping_add(1)).copied().unwrap_or(0);
-    low as u16 + 256 * high as u16
-}
-
-// Sets one byte.
-fn put_byte(memory: &mut [u8], at: usize, byte: u8) {
-    if at < memory.len() {
-        memory[at] = byte;
+impl Part {
+    // The addresses of its bytes.
+    fn range(self) -> Range<usize> {
+        let from = self.addr as usize;
+        from..from + self.len as usize
     }
 }
 
-// Sets the two bytes of a number.
-fn put_number(memory: &mut [u8], at: usize, number: u16) {
-    put_byte(memory, at, (number % 256) as u8);
-    put_byte(memory, at.wrapping_add(1), (number / 256) as u8);
+impl Descriptor {
+    // The part that it names.
+    fn part(self) -> Part {
+        Part {
+            addr: self.addr,
+            len: self.len,
+            is_writable: self.flags / 2 % 2 == 1,
+        }
+    }
 }
 
 impl Ring {
@@ -92,9 +87,20 @@ impl Ring {
         })
     }
 
-    // Where a number of descriptor `i` stands, so many bytes from the descriptor's first.
-    fn descriptor(self, i: u16, offset: u8) -> usize {
-        self.begins as usize + 8 * i as usize + offset as usize
+    // The ring that a guest's call is told of, if it is one and lies in the guest's memory.
+    fn of(g: &Guest) -> Option<Ring> {
+        Ring::new(g.places, g.begins, g.memory.len())
+    }
+
+    // Descriptor `i`.
+    fn descriptor(self, memory: &[u8], i: u16) -> Descriptor {
+        let at = self.begins as usize + 8 * i as usize;
+        Descriptor {
+            addr: number(memory, at),
+            len: number(memory, at + 2),
+            flags: number(memory, at + 4),
+            next: number(memory, at + 6),
+        }
     }
 
     // Where the available count stands.
@@ -112,13 +118,11 @@ impl Ring {
         self.begins as usize + 10 * self.places as usize + 2
     }
 
-    // Where a number of the `k`-th used entry stands.
-    fn entry(self, k: u16, offset: u8) -> usize {
-        self.begins as usize
-            + 10 * self.places as usize
-            + 4
-            + 4 * (k % self.places) as usize
-            + offset as usize
+    // Where the `k`-th used entry stands.
+    fn entry(self, k: u16) -> usize
+        ensures { result < 2 ^ 33 }
+    {
+        self.begins as usize + 10 * self.places as usize + 4 + 4 * (k % self.places) as usize
     }
 
     // The first address behind the ring.
@@ -128,235 +132,215 @@ impl Ring {
 
     // How many chains wait.
     fn pending(self, memory: &[u8], served: u16) -> u16 {
-        ((number(memory, self.available()) as u32 + 65536 - served as u32) % 65536) as u16
+        number(memory, self.available()).wrapping_sub(served)
     }
 
     // Whether a part lies in memory, and wholly before the ring or wholly behind it.
     fn is_beside(self, p: Part, size: usize) -> bool {
-        let from = p.addr as usize;
-        let to = from + p.len as usize;
-        to <= size && (to <= self.begins as usize || self.end() <= from)
+        let bytes = p.range();
+        bytes.end <= size && (bytes.end <= self.begins as usize || self.end() <= bytes.start)
     }
-}
 
-// The parts of the chain that begins with `head`; false where it is bad.
-fn follow(ring: Ring, memory: &[u8], head: u16, parts: &mut Vec<Part>) -> Result<bool, AllocError> {
-    parts.clear();
-    let mut i = head;
-    for _ in 0..ring.places {
-        if i >= ring.places {
-            return Ok(false);
+    // The parts of the chain that begins with `head`, unless it is bad.
+    fn follow(
+        self,
+        heap: Global,
+        memory: &[u8],
+        head: u16,
+    ) -> Result<Option<Vec<Part>>, AllocError> {
+        let mut parts = Vec::new(heap);
+        let mut i = head;
+        for _ in 0..self.places {
+            if i >= self.places {
+                return Ok(None);
+            }
+            let d = self.descriptor(memory, i);
+            parts.push(d.part())?;
+            if d.flags % 2 == 0 {
+                return Ok(Some(parts));
+            }
+            i = d.next;
         }
-        let flags = number(memory, ring.descriptor(i, 4));
-        parts.push(Part {
-            addr: number(memory, ring.descriptor(i, 0)),
-            len: number(memory, ring.descriptor(i, 2)),
-            is_writable: flags / 2 % 2 == 1,
-        })?;
-        if flags % 2 == 0 {
-            return Ok(true);
-        }
-        i = number(memory, ring.descriptor(i, 6));
+        Ok(None)
     }
-    Ok(false)
-}
 
-// Whether a chain of these parts may be served.
-fn may_be_served(ring: Ring, parts: &[Part], size: usize) -> bool {
-    let mut any_writable = false;
-    for p in parts {
-        if !ring.is_beside(*p, size) || any_writable && !p.is_writable {
-            return false;
-        }
-        any_writable = p.is_writable;
+    // Whether a chain of these parts may be served.
+    fn may_serve(self, parts: &[Part], size: usize) -> bool {
+        parts.iter().all(|p| self.is_beside(*p, size))
+            && parts
+                .iter()
+                .skip_while(|p| !p.is_writable)
+                .all(|p| p.is_writable)
     }
-    true
 }
 
 // The bytes of the readable parts.
-fn read_request(memory: &[u8], parts: &[Part], request: &mut Vec<u8>) -> Result<(), AllocError> {
-    request.clear();
-    for p in parts {
-        if !p.is_writable {
-            for i in 0..p.len as usize {
-                request.push(memory.get(p.addr as usize + i).copied().unwrap_or(0))?;
-            }
-        }
+fn read_request(heap: Global, memory: &[u8], parts: &[Part]) -> Result<Vec<u8>, AllocError> {
+    let mut request = Vec::new(heap);
+    for p in parts.iter().filter(|p| !p.is_writable) {
+        request.extend_from_slice(memory.get(p.range()).unwrap_or(&[]))?;
     }
-    Ok(())
+    Ok(request)
 }
 
 // The length of the writable parts together.
 fn capacity(parts: &[Part]) -> u64 {
-    let mut sum = 0u64;
-    for p in parts {
-        if p.is_writable {
-            sum = sum.saturating_add(p.len as u64);
-        }
-    }
-    sum
+    parts
+        .iter()
+        .filter(|p| p.is_writable)
+        .fold(0u64, |sum, p| sum.saturating_add(u64::from(p.len)))
 }
 
 // Puts the response into the writable parts, as far as it goes.
 fn write_response(memory: &mut [u8], parts: &[Part], response: &[u8]) {
-    let mut next = 0usize;
-    for p in parts {
-        if p.is_writable {
-            for i in 0..p.len as usize {
-                if let Some(byte) = response.get(next).copied() {
-                    put_byte(memory, p.addr as usize + i, byte);
-                    next = next.wrapping_add(1);
-                }
-            }
-        }
+    let places = parts
+        .iter()
+        .filter(|p| p.is_writable)
+        .flat_map(|p| p.range());
+    for (at, byte) in places.zip(response) {
+        put_bytes(memory, at, &[*byte]);
     }
 }
 
 // What the device answers to a request, and does.
-fn respond(kept: &mut [u8], request: &[u8], response: &mut Vec<u8>) -> Result<(), AllocError> {
-    response.clear();
+fn respond(heap: Global, kept: &mut [u8], request: &[u8]) -> Result<Vec<u8>, AllocError> {
     let at = 16 * request.get(1).copied().unwrap_or(0) as usize;
-    if request.len() == 2 && request[0] == 0 && at + 16 <= kept.len() {
-        response.push(0)?;
-        return response.extend_from_slice(&kept[at..at + 16]);
-    }
-    if request.len() == 18 && request[0] == 1 && at + 16 <= kept.len() {
-        kept[at..at + 16].copy_from_slice(&request[2..18]);
-        response.push(0)?;
-        return Ok(());
-    }
-    response.push(255)?;
-    Ok(())
-}
-
-// Room for the chain that is looked at.
-#[derive(Drop)]
-pub struct Reading {
-    parts: Vec<Part>,
-    request: Vec<u8>,
-    response: Vec<u8>,
-}
-
-impl Reading {
-    // Room with nothing in it yet.
-    pub fn new(heap: Global) -> Reading {
-        Reading {
-            parts: Vec::new(heap),
-            request: Vec::new(heap),
-            response: Vec::new(heap),
+    let is_kept = at + 16 <= kept.len();
+    let mut response = Vec::new(heap);
+    match request {
+        [0, _] if is_kept => {
+            response.push(0)?;
+            response.extend_from_slice(&kept[at..at + 16])?;
         }
+        [1, _, bytes @ ..] if is_kept && bytes.len() == 16 => {
+            kept[at..at + 16].copy_from_slice(bytes);
+            response.push(0)?;
+        }
+        _ => response.push(255)?,
+    }
+    Ok(response)
+}
+
+// A ring and a device in memory that they are lent.
+#[derive(Drop)]
+struct Reading<'a> {
+    heap: Global,
+    ring: Ring,
+    device: Device,
+    memory: &'a mut [u8],
+    kept: &'a mut [u8],
+}
+
+impl Reading<'_> {
+    // How many chains wait.
+    fn pending(&self) -> u16 {
+        self.ring.pending(self.memory, self.device.served)
     }
 
-    // Answers a chain whose parts are known.
-    fn finish(
-        &mut self,
-        ring: Ring,
-        memory: &mut [u8],
-        device: &mut Device,
-        kept: &mut [u8],
-        head: u16,
-    ) -> Result<(), AllocError> {
-        read_request(memory, &self.parts, &mut self.request)?;
-        respond(kept, &self.request, &mut self.response)?;
-        let len = (self.response.len() as u64).min(capacity(&self.parts));
-        write_response(memory, &self.parts, &self.response);
-        put_number(memory, ring.entry(device.served, 0), head);
-        put_number(memory, ring.entry(device.served, 2), (len % 65536) as u16);
-        device.served = ((device.served as u32 + 1) % 65536) as u16;
-        put_number(memory, ring.used(), device.served);
+    // The parts of the next chain and its head, unless the guest breaks the rules.
+    fn next_chain(&self) -> Result<Option<(u16, Vec<Part>)>, AllocError> {
+        if self.pending() > self.ring.places {
+            return Ok(None);
+        }
+        let head = number(self.memory, self.ring.head(self.device.served));
+        let parts = self.ring.follow(self.heap, self.memory, head)?;
+        Ok(
+            parts
+                .filter(|parts| self.ring.may_serve(parts, self.memory.len()))
+                .map(|parts| (head, parts)),
+        )
+    }
+
+    // Answers a chain of these parts.
+    fn finish(&mut self, head: u16, parts: &[Part]) -> Result<(), AllocError> {
+        let request = read_request(self.heap, self.memory, parts)?;
+        let response = respond(self.heap, self.kept, &request)?;
+        let len = (response.len() as u64).min(capacity(parts));
+        write_response(self.memory, parts, &response);
+        let entry = self.ring.entry(self.device.served);
+        put_number(self.memory, entry, head);
+        put_number(self.memory, entry + 2, (len % 65536) as u16);
+        self.device.served = self.device.served.wrapping_add(1);
+        put_number(self.memory, self.ring.used(), self.device.served);
         Ok(())
     }
 
     // Serves the next chain; false where none is served.
-    fn serve_next(
-        &mut self,
-        ring: Ring,
-        memory: &mut [u8],
-        device: &mut Device,
-        kept: &mut [u8],
-    ) -> Result<bool, AllocError> {
-        let pending = ring.pending(memory, device.served);
-        if device.has_stopped || pending == 0 {
+    fn serve_next(&mut self) -> Result<bool, AllocError> {
+        if self.device.has_stopped || self.pending() == 0 {
             return Ok(false);
         }
-        let head = number(memory, ring.head(device.served));
-        if pending > ring.places
-            || !follow(ring, memory, head, &mut self.parts)?
-            || !may_be_served(ring, &self.parts, memory.len())
-        {
-            device.has_stopped = true;
+        let Some((head, parts)) = self.next_chain()? else {
+            self.device.has_stopped = true;
             return Ok(false);
-        }
-        self.finish(ring, memory, device, kept, head)?;
+        };
+        self.finish(head, &parts)?;
         Ok(true)
     }
 
-    // Serves at most `times` chains.
-    pub fn serve(
-        &mut self,
-        places: u64,
-        begins: u64,
-        memory: &mut [u8],
-        state: &mut [u32],
-        kept: &mut [u8],
-        times: u64,
-    ) -> Result<Answer, AllocError> {
-        let Some(ring) = Ring::new(places, begins, memory.len()) else {
-            return Ok(Answer::Refused(1));
-        };
-        let Some(mut device) = Device::read_from(state) else {
-            return Ok(Answer::Refused(2));
-        };
-        if kept.len() > 4096 {
-            return Ok(Answer::Refused(3));
-        }
-        if times > 1000 {
-            return Ok(Answer::Refused(4));
-        }
-        self.serve_all(ring, memory, &mut device, kept, times)?;
-        device.write_to(state);
-        if device.has_stopped {
-            return Ok(Answer::Stopped);
-        }
-        Ok(Answer::Served(ring.pending(memory, device.served) as u64))
-    }
-
     // Serves chains as long as there are some, at most `times` of them.
-    fn serve_all(
-        &mut self,
-        ring: Ring,
-        memory: &mut [u8],
-        device: &mut Device,
-        kept: &mut [u8],
-        times: u64,
-    ) -> Result<(), AllocError> {
+    fn serve_all(&mut self, times: u64) -> Result<(), AllocError> {
         for _ in 0..times {
-            if !self.serve_next(ring, memory, device, kept)? {
+            if !self.serve_next()? {
                 break;
             }
         }
         Ok(())
     }
+
+    // What is answered then.
+    fn done(&self) -> Done {
+        if self.device.has_stopped {
+            Done::Stopped
+        } else {
+            Done::Served(self.pending() as u64)
+        }
+    }
+}
+
+// Serves at most `times` chains.
+pub fn serve(heap: Global, g: &mut Guest, times: u64) -> Result<Done, AllocError> {
+    let Some(ring) = Ring::of(g) else {
+        return Ok(Done::Refused(1));
+    };
+    let Some(device) = Device::read_from(&g.state) else {
+        return Ok(Done::Refused(2));
+    };
+    if g.kept.len() > 4096 {
+        return Ok(Done::Refused(3));
+    }
+    if times > 1000 {
+        return Ok(Done::Refused(4));
+    }
+    let mut reading = Reading {
+        heap,
+        ring,
+        device,
+        memory: &mut g.memory,
+        kept: &mut g.kept,
+    };
+    reading.serve_all(times)?;
+    reading.device.write_to(&mut g.state);
+    Ok(reading.done())
 }
 
 // Resets the device.
-pub fn reset(state: &mut [u32]) -> Answer {
+pub fn reset(state: &mut [u32]) -> Done {
     if state.len() != 2 {
-        return Answer::Refused(2);
+        return Done::Refused(2);
     }
     state.fill(0);
-    Answer::Anew
+    Done::Anew
 }
 
 // The part that descriptor `at` names.
-pub fn part_of<'a>(places: u64, begins: u64, memory: &'a [u8], at: u64) -> &'a [u8] {
-    let Some(ring) = Ring::new(places, begins, memory.len()) else {
-        return &memory[0..0];
-    };
-    if at >= ring.places as u64 {
-        return &memory[0..0];
+pub fn part_of(g: &Guest, at: u64) -> &[u8] {
+    let nothing = &g.memory[0..0];
+    match Ring::of(g) {
+        Some(ring) if at < ring.places as u64 => {
+            let part = ring.descriptor(&g.memory, at as u16).part();
+            g.memory.get(part.range()).unwrap_or(nothing)
+        }
+        _ => nothing,
     }
-    let addr = number(memory, ring.descriptor(at as u16, 0)) as usize;
-    let len = number(memory, ring.descriptor(at as u16, 2)) as usize;
-    memory.get(addr..addr + len).unwrap_or(&memory[0..0])
 }

@@ -1,6 +1,7 @@
-use Rattle.std.proofs.Common.{◌%◌, [], ◌∷◌, ◌++◌, sym, ap, ◌∙◌}
-use Rattle.machine.proofs.Prints.{counted_more}
+use Rattle.std.proofs.Common.{◌%◌, rules, arith}
+use Rattle.std.proofs.lemmas.Iterator.{items_from_collect, YieldsList-from_range, YieldsList-from_map}
 use Rattle.machine.proofs.step.count_up.Goals as goal
 
-pub loop-i-preserved : goal.loop-i-preserved
-loop-i-preserved c = c.in_ok-push.ensures.items ∙ (ap (λ xs. xs ++ (c.loop-i.i % 256 ∷ [])) c.loop-i.invariant ∙ sym (counted_more c.loop-i.i))
+pub returns : goal.returns
+returns c =
+    items_from_collect _ c.collect.ensures.ran (YieldsList-from_map _ (λ i. i % 256) (YieldsList-from_range 0 c.args.n c.args.n (cc) (omega arith)) c.map.ensures.closure (λ x r q k. search rules))
