@@ -1,10 +1,11 @@
 -- Texts without marks, and how they are split again.
 use Rattle.std.proofs.Common.{◌≡◌, ℕ, ◌^◌, ◌<◌, Bool, true, false, not, ◌&&◌, List, [], ◌∷◌, ◌++◌, map, length, decimal, refl, ap, ◌∙◌, append-nil, arith}
 use Rattle.std.specs.Char.{is_ascii_digit}
-use Rattle.std.specs.List.{AllByRecursion}
+use Rattle.std.specs.List.{AllByRecursion, list_all}
+use Rattle.std.proofs.lemmas.List.Folds.{list_all-append}
 use Rattle.std.specs.Str.{all_ascii_digits}
 use Rattle.std.proofs.lemmas.Fmt.{decimal_nonempty, digits_decimal}
-use Rattle.std.proofs.lemmas.Bool.{and_parts, not-true}
+use Rattle.std.proofs.lemmas.Bool.{and_from, and_parts, not-true}
 use Rattle.std.proofs.lemmas.Bool.Decides.{nat_tests}
 use Rattle.script.specs.Format.{onto, split, line_end, blank, solid, words}
 use Rattle.script.specs.Shown.{spaced}
@@ -12,14 +13,10 @@ use Rattle.script.proofs.Values.{own}
 
 -- no byte of a text ends a part
 abbrev pub free : (ℕ → Bool) → List ℕ → Bool
-free p [] = true
-free p (b ∷ bs) = not (p b) && free p bs
+free p bs = list_all (λ b. not (p b)) bs
 
 pub free_join : (p : ℕ → Bool) (xs ys : List ℕ) → free p xs ≡ true → free p ys ≡ true → free p (xs ++ ys) ≡ true
-free_join p [] ys f g = g
-free_join p (b ∷ xs) ys f g =
-    let h = and_parts (not (p b)) (free p xs) f in
-    rw h.0 (free_join p xs ys h.1 g)
+free_join p xs ys f g = list_all-append (λ b. not (p b)) xs ys ∙ and_from (free p xs) (free p ys) f g
 
 pub split_mark : (p : ℕ → Bool) (w : List ℕ) (m : ℕ) (rest : List ℕ) → free p w ≡ true → p m ≡ true → split p (w ++ (m ∷ rest)) ≡ w ∷ split p rest
 split_mark p [] m rest f e = rw e refl

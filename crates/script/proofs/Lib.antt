@@ -1,6 +1,5 @@
 pub mod Values
 pub mod Cuts
-pub mod Rows
 pub mod Says
 pub mod Splits
 pub mod Texts
