@@ -1,5 +1,5 @@
 // Which refusal it is, with its number and its place.
-ghost use Rattle.std.specs.Prelude.{◌≡◌, ◌+◌, ◌*◌, ◌<◌, ◌≤◌, length};
+ghost use Rattle.std.specs.Prelude.{◌≡◌};
 ghost use Rattle.vring.specs.Rings.{size_ok};
 ghost use Rattle.serving.specs.Refusals.{refusal_number};
 ghost use Rattle.machine.specs.Refusals.{number_of, place_of};
