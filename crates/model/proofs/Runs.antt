@@ -45,6 +45,3 @@ contents r b (resets ∷ es) h p = contents r (after r b resets) es (reset_sound
 
 pub over_any_history : OverAnyHistory
 over_any_history r b es h p = (throughout r b es h p, contents r b es h p)
-
-pub recovers : Recovers
-recovers r b m h e = (record { stands = e; kept_len = h.kept_len; count = omega arith }, refl, refl, refl, refl)

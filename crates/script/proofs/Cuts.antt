@@ -1,67 +1,52 @@
--- Where a text is cut.
-use Rattle.std.proofs.Common.{◌≡◌, ℕ, ◌+◌, ◌-◌, ◌<◌, ◌≤◌, Bool, true, false, List, [], ◌∷◌, length, get_or, take, drop, refl, ap, ◌∙◌, inl, inr, add-one, arith}
-use Rattle.std.proofs.lemmas.List.{at_drop_more, at_drop_all, take_all, drop_all, take_rest, length-drop}
+-- The first word of a text.
+use Rattle.std.proofs.Common.{◌≡◌, ℕ, suc, ◌+◌, true, false, not, List, [], ◌∷◌, length, take, drop, refl, ap, ◌∙◌, inl, inr, arith}
+use Rattle.std.specs.List.{prefix_len}
 use Rattle.std.proofs.lemmas.Bool.{cases_Bool}
-use Rattle.script.specs.Format.{onto, split, solid, words}
-use Rattle.script.specs.Marks.{till}
+use Rattle.script.specs.Format.{onto, split, blank, solid, words}
 
--- the first part is what stands before the first mark
-pub split_first : (p : ℕ → Bool) (xs : List ℕ) → 0 < length xs → split p xs ≡ take (till p xs) xs ∷ split p (drop (till p xs + 1) xs)
-split_first p [] h = absurd (omega arith)
-split_first p (b ∷ []) h =
-    elim (cases_Bool (p b)) [ inl e ↦ rw e refl | inr e ↦ rw e refl ]
-split_first p (b ∷ c ∷ bs) h =
-    elim (cases_Bool (p b)) [
-      | inl e ↦ rw e refl
-      | inr e ↦ let n = till p (c ∷ bs) in rw (e, add-one (n + 1), add-one n) (rw (add-one n) at (ap (onto b) (split_first p (c ∷ bs) (omega arith))))
+-- how many bytes stand before the first blank
+abbrev pub word_len : List ℕ → ℕ
+word_len = prefix_len (λ b. not (blank b))
+
+-- the text without the blanks before it
+abbrev pub trimmed : List ℕ → List ℕ
+trimmed xs = drop (prefix_len blank xs) xs
+
+trimmed_blank : (b : ℕ) (bs : List ℕ) → blank b ≡ true → trimmed (b ∷ bs) ≡ trimmed bs
+trimmed_blank b bs e = let s : 1 + prefix_len blank bs ≡ suc (prefix_len blank bs) = omega arith in rw (e, s) refl
+
+trimmed_word : (b : ℕ) (bs : List ℕ) → blank b ≡ false → trimmed (b ∷ bs) ≡ b ∷ bs
+trimmed_word b bs e = rw e refl
+
+-- a byte before a part that is not empty
+solid_onto : (b c : ℕ) (ws : List (List ℕ)) → solid (onto b (onto c ws)) ≡ onto b (solid (onto c ws))
+solid_onto b c [] = refl
+solid_onto b c (w ∷ ws) = refl
+
+word_len_more : (b : ℕ) (bs : List ℕ) → blank b ≡ false → word_len (b ∷ bs) ≡ suc (word_len bs)
+word_len_more b bs e = let s : 1 + word_len bs ≡ suc (word_len bs) = omega arith in rw (e, s) refl
+
+-- a word that begins with b goes on up to the next blank
+word_goes_on : (b : ℕ) (bs : List ℕ) → solid (onto b (split blank bs)) ≡ (b ∷ take (word_len bs) bs) ∷ words (drop (word_len bs) bs)
+word_goes_on b [] = refl
+word_goes_on b (c ∷ cs) =
+    elim (cases_Bool (blank c)) [
+      | inl e ↦ rw e (rw e refl)
+      | inr e ↦ rw (word_len_more c cs e) (rw e (solid_onto b c (split blank cs) ∙ ap (onto b) (word_goes_on c cs)))
     ]
 
-pub till_le : (p : ℕ → Bool) (xs : List ℕ) → till p xs ≤ length xs
-till_le p [] = omega arith
-till_le p (b ∷ bs) = elim (cases_Bool (p b)) [ inl e ↦ rw e (omega arith) | inr e ↦ rw e (omega (arith, till_le p bs)) ]
+pub first_word_none : (xs t : List ℕ) → t ≡ trimmed xs → length (take (word_len t) t) ≡ 0 → words xs ≡ []
+first_word_none [] t d h = refl
+first_word_none (b ∷ bs) t d h =
+    elim (cases_Bool (blank b)) [
+      | inl e ↦ rw e (first_word_none bs t (d ∙ trimmed_blank b bs e) h)
+      | inr e ↦ absurd (let k = rw (d ∙ trimmed_word b bs e, word_len_more b bs e) at h in omega arith)
+    ]
 
--- a loop over the bytes of a text up to the first mark
-module _ (p : ℕ → Bool) (xs : List ℕ) (i : ℕ) (inv : i + till p (drop i xs) ≡ till p xs) where
-  pub till_here : i < length xs → true ≡ p (get_or xs i 0) → i ≡ till p xs
-  till_here l e =
-      let k : till p (drop i xs) ≡ 0 = at_drop_more (till p) xs i 0 l ∙ rw (← e) refl in
-      omega arith
-
-  pub till_on : i < length xs → false ≡ p (get_or xs i 0) → (i + 1) + till p (drop (i + 1) xs) ≡ till p xs
-  till_on l e =
-      let k : till p (drop i xs) ≡ till p (drop (i + 1) xs) + 1 = at_drop_more (till p) xs i 0 l ∙ rw (← e) refl in
-      omega arith
-
-  pub till_end : length xs ≤ i → i ≤ length xs → length xs ≡ till p xs
-  till_end l m =
-      let k : till p (drop i xs) ≡ 0 = at_drop_all (till p) xs i l in
-      omega arith
-
--- the first part and the rest, as slices
-module _ (p : ℕ → Bool) (xs : List ℕ) (n : ℕ) (e : n ≡ till p xs) (some : 0 < length xs) where
-  pub cut_inside : split p xs ≡ take (n - 0) xs ∷ split p (take (length xs - (n + 1)) (drop (n + 1) xs))
-  cut_inside =
-      let z : n - 0 ≡ n = omega arith in
-      rw (take_rest xs (n + 1), z, e) (split_first p xs some)
-
-  pub cut_short : n < length xs → length (take (length xs - (n + 1)) (drop (n + 1) xs)) < length xs
-  cut_short l = rw (take_rest xs (n + 1), length-drop) (omega arith)
-
-  pub cut_end : length xs ≤ n → split p xs ≡ xs ∷ []
-  cut_end l =
-      let t : take n xs ≡ xs = take_all n xs l in
-      let d : drop (n + 1) xs ≡ [] = drop_all (n + 1) xs (omega arith) in
-      split_first p xs some ∙ rw (← e, t, d) refl
-
--- the parts that are not empty
-pub solid_none : (w : List ℕ) (ws : List (List ℕ)) → length w ≡ 0 → solid (w ∷ ws) ≡ solid ws
-solid_none [] ws h = refl
-solid_none (b ∷ w) ws h = absurd (omega arith)
-
-pub solid_some : (w : List ℕ) (ws : List (List ℕ)) → (length w ≡ 0 → ⊥) → solid (w ∷ ws) ≡ w ∷ solid ws
-solid_some [] ws h = absurd (h refl)
-solid_some (b ∷ w) ws h = refl
-
-pub words_none : (line : List ℕ) → length line ≡ 0 → words line ≡ []
-words_none [] h = refl
-words_none (b ∷ line) h = absurd (omega arith)
+pub first_word_some : (xs t : List ℕ) → t ≡ trimmed xs → (length (take (word_len t) t) ≡ 0 → ⊥) → words xs ≡ take (word_len t) t ∷ words (drop (word_len t) t)
+first_word_some [] t d h = absurd (h (rw d refl))
+first_word_some (b ∷ bs) t d h =
+    elim (cases_Bool (blank b)) [
+      | inl e ↦ rw e (first_word_some bs t (d ∙ trimmed_blank b bs e) h)
+      | inr e ↦ rw (d ∙ trimmed_word b bs e, word_len_more b bs e) (rw e (word_goes_on b bs))
+    ]

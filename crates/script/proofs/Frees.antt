@@ -1,26 +1,22 @@
 -- Texts without marks, and how they are split again.
-use Rattle.std.proofs.Common.{◌≡◌, ℕ, ◌^◌, ◌<◌, Bool, true, false, not, ◌&&◌, List, [], ◌∷◌, ◌++◌, map, length, decimal, refl, ap, ◌∙◌, append-nil, arith, rules}
+use Rattle.std.proofs.Common.{◌≡◌, ℕ, ◌^◌, ◌<◌, Bool, true, false, not, ◌&&◌, List, [], ◌∷◌, ◌++◌, map, length, decimal, refl, ap, ◌∙◌, append-nil, arith}
 use Rattle.std.specs.Char.{is_ascii_digit}
-use Rattle.std.specs.List.{AllByRecursion}
+use Rattle.std.specs.List.{AllByRecursion, list_all}
+use Rattle.std.proofs.lemmas.List.Folds.{list_all-append}
 use Rattle.std.specs.Str.{all_ascii_digits}
 use Rattle.std.proofs.lemmas.Fmt.{decimal_nonempty, digits_decimal}
-use Rattle.std.proofs.lemmas.Str.Parse.{IsNumeralModel, numerals_by_fold}
-use Rattle.std.proofs.lemmas.Bool.{and_parts, not-true}
+use Rattle.std.proofs.lemmas.Bool.{and_from, and_parts, not-true}
 use Rattle.std.proofs.lemmas.Bool.Decides.{nat_tests}
-use Rattle.script.specs.Format.{onto, split, line_end, blank, solid, words, value}
+use Rattle.script.specs.Format.{onto, split, line_end, blank, solid, words}
 use Rattle.script.specs.Shown.{spaced}
-use Rattle.script.proofs.Cuts.{solid_some}
+use Rattle.script.proofs.Values.{own}
 
 -- no byte of a text ends a part
 abbrev pub free : (ℕ → Bool) → List ℕ → Bool
-free p [] = true
-free p (b ∷ bs) = not (p b) && free p bs
+free p bs = list_all (λ b. not (p b)) bs
 
 pub free_join : (p : ℕ → Bool) (xs ys : List ℕ) → free p xs ≡ true → free p ys ≡ true → free p (xs ++ ys) ≡ true
-free_join p [] ys f g = g
-free_join p (b ∷ xs) ys f g =
-    let h = and_parts (not (p b)) (free p xs) f in
-    rw h.0 (free_join p xs ys h.1 g)
+free_join p xs ys f g = list_all-append (λ b. not (p b)) xs ys ∙ and_from (free p xs) (free p ys) f g
 
 pub split_mark : (p : ℕ → Bool) (w : List ℕ) (m : ℕ) (rest : List ℕ) → free p w ≡ true → p m ≡ true → split p (w ++ (m ∷ rest)) ≡ w ∷ split p rest
 split_mark p [] m rest f e = rw e refl
@@ -35,20 +31,18 @@ split_free p (b ∷ c ∷ w) f l =
     let h = and_parts (not (p b)) (free p (c ∷ w)) f in
     rw (not-true (p b) h.0) (ap (onto b) (split_free p (c ∷ w) h.1 (omega arith)))
 
-not_empty : (w : List ℕ) → 0 < length w → length w ≡ 0 → ⊥
-not_empty w l e = omega arith
+solid_some : (w : List ℕ) (ws : List (List ℕ)) → 0 < length w → solid (w ∷ ws) ≡ w ∷ solid ws
+solid_some [] ws h = absurd (omega arith)
+solid_some (b ∷ w) ws h = refl
 
 -- the words of a word, and of a word with a blank behind it
 pub words_mark : (w rest : List ℕ) → free blank w ≡ true → 0 < length w → words (w ++ (32 ∷ rest)) ≡ w ∷ words rest
-words_mark w rest f l = ap solid (split_mark blank w 32 rest f refl) ∙ solid_some w (split blank rest) (not_empty w l)
+words_mark w rest f l = ap solid (split_mark blank w 32 rest f refl) ∙ solid_some w (split blank rest) l
 
 pub words_free : (w : List ℕ) → free blank w ≡ true → 0 < length w → words w ≡ w ∷ []
-words_free w f l = ap solid (split_free blank w f l) ∙ solid_some w [] (not_empty w l)
+words_free w f l = ap solid (split_free blank w f l) ∙ solid_some w [] l
 
 -- ## Numbers
-pub own : IsNumeralModel (λ ds. all_ascii_digits ds ≡ true) (value 0)
-own = numerals_by_fold _ (search rules) value (search rules)
-
 digit_free : (b : ℕ) → is_ascii_digit b ≡ true → (blank b ≡ false) × (line_end b ≡ false)
 digit_free b e = (grind (arith, nat_tests), grind (arith, nat_tests))
 

@@ -1,7 +1,7 @@
 pub mod Values
 pub mod Cuts
-pub mod Rows
 pub mod Says
+pub mod Splits
 pub mod Texts
 pub mod Frees
 pub mod Trips

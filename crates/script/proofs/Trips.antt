@@ -1,25 +1,21 @@
 -- What is written is read again.
-use Rattle.std.proofs.Common.{◌≡◌, ℕ, ◌+◌, ◌-◌, ◌^◌, ◌<◌, ◌≤◌, true, cond, eqb, ltb, List, [], ◌∷◌, ◌++◌, map, length, get_or, take, Some, None, Ok, codes, decimal, sym, refl, ap, ◌∙◌, append_assoc, arith}
+use Rattle.std.proofs.Common.{◌≡◌, ℕ, ◌+◌, ◌-◌, ◌^◌, ◌<◌, ◌≤◌, true, cond, eqb, List, [], ◌∷◌, ◌++◌, map, length, get_or, take, Some, None, Ok, codes, decimal, sym, refl, ap, ◌∙◌, append_assoc, arith}
 use Rattle.std.specs.Option.{option_map}
 use Rattle.std.specs.List.{AllByRecursion}
-use Rattle.std.specs.Str.{all_ascii_digits}
 use Rattle.std.proofs.lemmas.Fmt.{decimal_nonempty, digits_decimal, digits_value-decimal}
 use Rattle.std.proofs.lemmas.List.{length_push, get_or_push, take_at}
-use Rattle.std.proofs.lemmas.Bool.{lt-ltb, le-leb, and_from}
+use Rattle.std.proofs.lemmas.Bool.{le-leb}
 use Rattle.script.specs.Format.{Cmd, memory, ring, bytes_at, kept, serve, anew, piece, says, said, meaning, line_end, blank, lines, words, number, value, only, both, small, byte, row, address, laid, size_after, first, go_on, read_lines}
 use Rattle.script.specs.Shown.{spaced, shown}
 use Rattle.script.specs.Laws.{Sound, Sounds, written, RoundTrip, WholeRoundTrip}
-use Rattle.script.proofs.Frees.{free, free_join, split_mark, words_mark, words_free, words_spaced, spaced_no_end, own, decimal_no_blank, decimal_no_end}
+use Rattle.script.proofs.Values.{own, numeral}
+use Rattle.script.proofs.Frees.{free, free_join, split_mark, words_mark, words_free, words_spaced, spaced_no_end, decimal_no_blank, decimal_no_end}
 
 -- ## Numbers
-numeral : (w : List ℕ) → 0 < length w → all_ascii_digits w ≡ true → value 0 w < 2 ^ 64 → number w ≡ Some (value 0 w)
-numeral [] l d h = absurd (omega arith)
-numeral (b ∷ w) l d h = rw (and_from (all_ascii_digits (b ∷ w)) (ltb (value 0 (b ∷ w)) (2 ^ 64)) d (lt-ltb _ (2 ^ 64) h)) refl
-
 number_back : (n : ℕ) → n < 2 ^ 64 → number (decimal n) ≡ Some n
 number_back n h =
     let v : value 0 (decimal n) ≡ n = digits_value-decimal own n h in
-    numeral (decimal n) (decimal_nonempty n h) (digits_decimal own n h) (omega arith) ∙ ap Some v
+    numeral (decimal n) (digits_decimal own n h) (decimal_nonempty n h) (omega arith) ∙ ap Some v
 
 byte_back : (n : ℕ) → n < 256 → byte (decimal n) ≡ Some n
 byte_back n h = ap small (number_back n (omega arith)) ∙ rw (le-leb n 255 (omega arith)) refl

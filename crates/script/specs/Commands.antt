@@ -2,9 +2,7 @@
 use Rattle.std.specs.Prelude.{vec_items}
 use Rattle.script.specs.declared.command.Command.{Command}
 use Rattle.script.specs.declared.command.Command.TheVariants.{Memory, Ring, Bytes, Kept, Serve, Anew, Piece}
-use Rattle.script.specs.declared.said.Said.{Said}
-use Rattle.script.specs.declared.said.Said.TheVariants.{Nothing, Command as Says, Unreadable}
-use Rattle.script.specs.Format.{Cmd, memory, ring, bytes_at, kept, serve, anew, piece, Line, skipped, says, unreadable}
+use Rattle.script.specs.Format.{Cmd, memory, ring, bytes_at, kept, serve, anew, piece}
 
 -- the command that a value of the code stands for
 abbrev pub cmd_of : Command → Cmd
@@ -15,9 +13,3 @@ cmd_of (Kept n) = kept n
 cmd_of (Serve n) = serve n
 cmd_of Anew = anew
 cmd_of (Piece n) = piece n
-
--- what the code found that a line says
-abbrev pub line_says : Said → Line
-line_says Nothing = skipped
-line_says (Says c) = says (cmd_of c)
-line_says Unreadable = unreadable

@@ -1,7 +1,5 @@
 pub mod Format
-pub mod Marks
 pub mod Commands
-pub mod Keywords
 pub mod Parses
 pub mod Shown
 pub mod Laws

@@ -3,13 +3,10 @@
 
 pub mod command;
 pub mod fault;
-mod keyword;
 pub mod laws;
 mod line;
-mod mark;
-mod named;
+mod line_error;
 mod number;
 pub mod parse;
-mod part;
-mod said;
 pub mod show;
+mod words;

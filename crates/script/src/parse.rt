@@ -1,16 +1,13 @@
 // A whole script.
 ghost use Rattle.std.specs.Prelude.{◌≡◌, map, IfOk};
-ghost use Rattle.script.specs.Format.{size_after};
+ghost use Rattle.script.specs.Format.{size_after, line as line_of};
 ghost use Rattle.script.specs.Commands.{cmd_of};
 ghost use Rattle.script.specs.Laws.{Sounds};
-ghost use Rattle.script.specs.Parses.{Parsed};
+ghost use Rattle.script.specs.Parses.{ReadAt, Parsed};
 
 use crate::command::Command;
 use crate::fault::Fault;
 use crate::line::read_line;
-use crate::mark::Mark;
-use crate::part::first_part;
-use crate::said::Said;
 use std::alloc::Global;
 
 impl Command {
@@ -25,6 +22,13 @@ impl Command {
     }
 }
 
+// What line `number` says, if anything, in a memory of `size` bytes.
+fn read_at(heap: Global, size: u64, number: usize, line: &[u8]) -> Result<Option<Command>, Fault>
+    ensures { ReadAt number result (line_of size line.now) }
+{
+    read_line(heap, size, line).map_err(|e| e.at(number as u64))
+}
+
 // The commands of a script, or its first line that cannot be read.
 pub fn parse(heap: Global, text: &[u8]) -> Result<Vec<Command>, Fault>
     ensures read { Parsed text.now result }
@@ -32,20 +36,12 @@ pub fn parse(heap: Global, text: &[u8]) -> Result<Vec<Command>, Fault>
 {
     let mut commands = Vec::new(heap);
     let mut size = 0;
-    let mut number = 0;
-    let mut rest = text;
-    while !rest.is_empty() {
-        let (line, after) = first_part(rest, Mark::LineEnd);
-        match read_line(heap, size, line)? {
-            Said::Nothing => {}
-            Said::Command(command) => {
-                size = command.size_after(size);
-                commands.push(command)?;
-            }
-            Said::Unreadable => return Err(Fault::Line(number)),
-        }
-        number += 1;
-        rest = after;
+    for (number, line) in text.split(|b| *b == b'\n').enumerate() {
+        let Some(command) = read_at(heap, size, number, line)? else {
+            continue;
+        };
+        size = command.size_after(size);
+        commands.push(command)?;
     }
     Ok(commands)
 }

@@ -1,5 +1,5 @@
 // The entries: they take whatever they are lent, or refuse it and change nothing.
-ghost use Rattle.std.specs.Prelude.{◌≡◌, ◌+◌, ◌*◌, ◌<◌, ◌≤◌, true, false, List, [], ◌∷◌, length, MatchOption};
+ghost use Rattle.std.specs.Prelude.{◌≡◌, ◌+◌, ◌*◌, ◌<◌, ◌≤◌, true, false, List, [], ◌∷◌, length, MatchOption, OnOk};
 ghost use Rattle.vring.specs.Rings.{ends_at};
 ghost use Rattle.vring.specs.Layouts.{ring_of};
 ghost use Rattle.device.specs.Responds.{device_of};
@@ -52,6 +52,7 @@ pub fn try_serve(
 ) -> Result<Done, Refusal>
     ensures does { ServeSays (refusal (record { size = places; base = begins }) memory.old state.old kept.old times) (record { size = places; base = begins }) memory.old state.old kept.old times (said result) memory.new state.new kept.new }
     ensures promises { refusal (record { size = places; base = begins }) memory.old state.old kept.old times ≡ 0 → Promised (record { size = places; base = begins }) (state_in memory.old state.old kept.old) times (said result) (state_in memory.new state.new kept.new) }
+    ensures ok { OnOk result (refusal (record { size = places; base = begins }) memory.old state.old kept.old times ≡ 0) }
 {
     let layout = Layout::new(places, begins, memory.len()).ok_or(Refusal::Ring)?;
     let mut progress = Progress::try_from(&*state)?;

@@ -12,11 +12,6 @@ returns-then-progress g c =
     let b = turn_stopped g.M.GuestMemory.acts (ring_of c.args.layout.now) (g.M.GuestMemory.holds c.args.m.now) (device_of c.args.progress.now c.args.kept.now) c.args.m.now c.if-progress.true in
     record { value = b.0; then = b.1; size = refl }
 
-pub complete-requires : goal.complete-requires
-complete-requires g c =
-    let k = sym c.look.ensures.size in
-    record { ring = subst (λ n. ends_at (ring_of c.args.layout.now) ≤ n) k c.requires; parts = subst (λ n. Within n c.look.new.job.chain) k (c.look.ensures.within (c.in-Ok-true.is ∙ ap Ok c.in-Ok-true.field-0-test)); running = c.if-progress.false }
-
 pub returns-in-Ok-false : goal.returns-in-Ok-false
 returns-in-Ok-false g c =
     let l = c.in-Ok-false.is ∙ ap Ok c.in-Ok-false.field-0-test in

@@ -1,0 +1,42 @@
+// Why a line is not taken.
+ghost use Rattle.std.specs.Prelude.{◌≡◌};
+ghost use Rattle.script.specs.declared.line_error.LineError.TheVariants.{NoMemory};
+ghost use Rattle.script.specs.Parses.{fault_at};
+
+use crate::fault::Fault;
+use std::alloc::{AllocError, AllocFailed};
+
+// It says nothing that can be read, or no memory is left to read on.
+#[derive(Clone, Copy, Debug, PartialEq, Eq)]
+pub enum LineError {
+    Unreadable,
+    NoMemory,
+}
+
+impl From<AllocError> for LineError {
+    ghost from_gives = { λ _ r. r ≡ NoMemory };
+
+    fn from(_: AllocError) -> LineError {
+        LineError::NoMemory
+    }
+}
+
+impl<T: Drop> From<AllocFailed<T>> for LineError {
+    ghost from_gives = { λ _ r. r ≡ NoMemory };
+
+    fn from(_: AllocFailed<T>) -> LineError {
+        LineError::NoMemory
+    }
+}
+
+impl LineError {
+    // The fault of a script whose line `number` is not taken.
+    pub fn at(self, number: u64) -> Fault
+        ensures { result ≡ fault_at number self }
+    {
+        match self {
+            LineError::Unreadable => Fault::Line(number),
+            LineError::NoMemory => Fault::NoMemory,
+        }
+    }
+}
