@@ -18,6 +18,7 @@ impl Descriptor {
     }
 
     // Whether its part also lies in a memory of `n` bytes.
+    #[tactic(auto, unfolding(crate::specs::Usable::fits))]
     fn fits(&self, regions: &[Region], n: usize) -> bool
         ensures { result ≡ fits regions.now n self.now }
     {

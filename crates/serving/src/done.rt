@@ -8,6 +8,6 @@ pub enum Done {
     Stopped,
     // The device was reset.
     Anew,
-    // Nothing was done: the number of the refusal.
+    // Nothing was done: the number of the refusal, since that is what the entries are to answer. `Refusal` has the cases.
     Refused(u64),
 }

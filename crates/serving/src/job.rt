@@ -5,7 +5,8 @@ use arrayvec::ArrayVec;
 use chains::chain::Chain;
 use transfer::request::Request;
 
-// A chain to be served, all of it as it was read. One is made for a call and used for each of its servings.
+// A chain to be served, all of it as it was read. One is made for a call and filled again by each of its servings: there is no heap,
+// and a chain of its own for each would have its 64 places written each time.
 #[derive(Drop)]
 pub struct Job {
     pub chain: Chain,

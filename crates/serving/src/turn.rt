@@ -1,4 +1,6 @@
 // One serving, and a budget of them.
+// Ring and memory, state and contents stay parameters of their own: a struct that borrows them would owe in each contract that its
+// references are the same as before (as `View` does), a clause more for each parameter less.
 ghost use Rattle.std.specs.Prelude.{◌≡◌, ◌+◌, ◌<◌, ◌≤◌, false, length};
 ghost use Rattle.vring.specs.Programs.{ends, leaves};
 ghost use Rattle.vring.specs.Rings.{ends_at};
@@ -45,7 +47,7 @@ fn complete<M: GuestMemory>(
     progress.served = progress.served.wrapping_add(1);
 }
 
-// One serving; true where a chain was served.
+// One serving; true where a chain was served. Nothing else is answered: a stop is told by the state, which is lent.
 pub fn turn<M: GuestMemory>(
     layout: &Layout,
     m: &mut M,

@@ -50,6 +50,7 @@ fn put_used<M: GuestMemory>(layout: &Layout, m: &mut M, k: u16, head: u16, len: 
 }
 
 // The response into the chain, which is the `k`-th and begins with `head`, and then that it is used.
+#[tactic(auto, using(vring::proofs::Binds::leaves_then), unfolding(crate::specs::Responses::finish_prog))]
 pub fn finish<M: GuestMemory>(
     layout: &Layout,
     m: &mut M,

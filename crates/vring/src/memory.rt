@@ -3,6 +3,7 @@ ghost use Rattle.std.specs.Prelude.{◌≡◌, ℕ, ◌+◌, ◌<◌, ◌≤◌,
 ghost use Rattle.vring.specs.Programs.{Acts, byte as one, pair, leaves, put_bytes};
 
 // What a device may do with a guest's memory: read a byte or a number, write a number or a row of bytes.
+// Each call also says that memory keeps its size: that follows from what it leaves, but each caller would have to show it for each address.
 pub trait GuestMemory {
     ghost holds: { Self → ℕ };
 
