@@ -15,7 +15,7 @@ pub struct Setup {
     pub kept: Vec<u8>,
 }
 
-// A descriptor, as the guest writes it.
+// A descriptor, as the guest writes it. The trial has one of its own: a library for the two would be contracts for one struct.
 #[derive(Clone, Copy)]
 pub struct Descriptor {
     pub addr: u16,

@@ -4,7 +4,8 @@ use Rattle.std.specs.List.{range_with_len}
 use Rattle.vring.specs.Words.{set_bytes}
 use Rattle.vring.specs.Rings.{Ring, size_ok, ends_at}
 use Rattle.model.specs.Serving.{State, serve_times}
-use Rattle.serving.specs.Entries.{state_in, numbers_of, refusal, answer, part}
+use Rattle.device.specs.States.{numbers_of}
+use Rattle.serving.specs.Entries.{state_in, refusal, answer, part}
 use Rattle.serving.specs.declared.done.Done.{Done}
 use Rattle.serving.specs.declared.done.Done.TheVariants.{Served, Stopped, Anew, Refused}
 use Rattle.report.specs.Lines.{change, waiting, piece_of}

@@ -1,6 +1,5 @@
 // Which refusal it is, with its number and its place.
-ghost use Rattle.std.specs.Prelude.{◌≡◌, ◌+◌, ◌*◌, ◌<◌, ◌≤◌, length};
-ghost use Rattle.vring.specs.Rings.{size_ok};
+ghost use Rattle.std.specs.Prelude.{◌≡◌};
 ghost use Rattle.serving.specs.Refusals.{refusal_number};
 ghost use Rattle.machine.specs.Refusals.{number_of, place_of};
 ghost use Rattle.machine.specs.Steps.{ring_fault, state_fault, fault};
@@ -8,14 +7,7 @@ ghost use Rattle.machine.specs.Steps.{ring_fault, state_fault, fault};
 use crate::machine::{Machine, Ring};
 use crate::refusal::Refusal;
 use serving::refusal::Refusal as Refused;
-
-// Whether a ring may have so many places.
-#[tactic(auto, unfolding(vring::specs::Rings::size_ok))]
-fn is_size(places: u64) -> bool
-    ensures { result ≡ size_ok places }
-{
-    places >= 1 && places <= 64 && 65536 % places == 0
-}
+use vring::ring::is_size;
 
 impl Ring {
     // What is wrong with the ring, in a memory of `n` bytes.

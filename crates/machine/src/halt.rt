@@ -9,6 +9,7 @@ use std::alloc::AllocError;
 use std::fmt;
 use thiserror::Error;
 
+// What ended it, which it also says in plain words.
 #[derive(Clone, Copy, Debug, PartialEq, Eq, Error)]
 pub enum Halt {
     // A command was refused.

@@ -1,5 +1,5 @@
 // What a step prints.
-ghost use Rattle.std.specs.Prelude.{◌≡◌, ◌+◌, ◌<◌, ◌≤◌, ◌++◌, length, string_bytes, OnOk};
+ghost use Rattle.std.specs.Prelude.{◌≡◌, ◌++◌, string_bytes, OnOk};
 ghost use Rattle.report.specs.Stores.{name_of};
 ghost use Rattle.machine.specs.Steps.{changes, answered, part_line};
 

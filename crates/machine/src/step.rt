@@ -1,5 +1,5 @@
 // What each command does.
-ghost use Rattle.std.specs.Prelude.{◌≡◌, ◌+◌, ◌<◌, ◌≤◌, [], IfOk, OnOk, string_bytes};
+ghost use Rattle.std.specs.Prelude.{◌≡◌, [], IfOk, OnOk, string_bytes};
 ghost use Rattle.serving.specs.Entries.{refusal, ServeSays};
 ghost use Rattle.serving.specs.Refusals.{said};
 ghost use Rattle.script.specs.Commands.{cmd_of};

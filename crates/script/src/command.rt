@@ -1,7 +1,7 @@
 // The commands of a script.
 
 // What a script may ask for.
-#[derive(Drop)]
+#[derive(Debug, PartialEq, Eq, Drop)]
 pub enum Command {
     // A memory of so many bytes, all 0.
     Memory(u64),

@@ -1,5 +1,5 @@
 // Commands as text.
-ghost use Rattle.std.specs.Prelude.{◌≡◌, ◌++◌, Some, string_bytes, OnOk};
+ghost use Rattle.std.specs.Prelude.{Some};
 ghost use Rattle.script.specs.Commands.{cmd_of};
 ghost use Rattle.script.specs.Shown.{spaced, shown};
 
@@ -39,13 +39,4 @@ impl fmt::Display for Command {
             Command::Piece(n) => write!(f, "piece {n}"),
         }
     }
-}
-
-// Writes bytes, each with a space before it.
-pub fn write_bytes(out: &mut String, bytes: &[u8]) -> fmt::Result
-    ensures { OnOk result (string_bytes out.new ≡ string_bytes out.old ++ spaced bytes.now) }
-{
-    let bytes = Spaced(bytes);
-    write!(out, "{bytes}")?;
-    Ok(())
 }

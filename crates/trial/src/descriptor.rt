@@ -1,7 +1,6 @@
 // A descriptor, as the guest writes it.
 
-// Its four numbers. Written out here as in the worked examples: both stay independent of the proved code, and a library
-// for the two would be contracts for one struct.
+// Its four numbers. The worked examples have one of their own: a library for the two would be contracts for one struct.
 #[derive(Clone, Copy)]
 pub struct Descriptor {
     pub addr: u16,

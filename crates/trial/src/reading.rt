@@ -8,7 +8,8 @@ use serving::done::Done;
 use std::alloc::{AllocError, Global};
 use std::ops::Range;
 
-// A ring of so many places, which begins there.
+// A ring of so many places, which begins there. It finds the ring's parts by sums of its own, and not by those of the guest's
+// frame, so that a wrong sum on either side shows.
 #[derive(Clone, Copy)]
 struct Ring {
     places: u16,
