@@ -60,7 +60,7 @@ def flags(files):
 
 def numbers_for_kinds(files):
     yield from lines_like(
-        files, r"Refused\(\d", r"^\s*\d+ => (self|Refusal)", r"kind: u\d+", r"field: u8", r"present: u32", r"pub stopped: u32", r"\bput_field\(i, \d", r"fn \w+\(\) -> u8$"
+        files, r"Refused\(\d", r"^\s*\d+ => (self\.\w+_fault|Refusal)", r"kind: u\d+", r"field: u8", r"present: u32", r"pub stopped: u32", r"\bput_field\(i, \d", r"fn \w+\(\) -> u8$"
     )
 
 
@@ -92,7 +92,7 @@ def rest_of(files, name, number):
     taken = []
     for line in text[number - 1 :]:
         taken.append(line)
-        if line.strip() == "{" or line.endswith("{") and "ensures" not in line and "requires" not in line:
+        if line.strip() in ("{", "{}") or line.endswith("{") and "ensures" not in line and "requires" not in line:
             break
         if line.endswith(";"):
             break

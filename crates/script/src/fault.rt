@@ -14,6 +14,7 @@ pub enum Fault {
     NoMemory,
 }
 
+// Both conversions are by hand, since what the derive writes has no contract.
 impl From<AllocError> for Fault {
     ghost from_gives = { λ _ r. r ≡ NoMemory };
 

@@ -4,21 +4,13 @@ ghost use Rattle.script.specs.declared.line_error.LineError.TheVariants.{NoMemor
 ghost use Rattle.script.specs.Parses.{fault_at};
 
 use crate::fault::Fault;
-use std::alloc::{AllocError, AllocFailed};
+use std::alloc::AllocFailed;
 
 // It says nothing that can be read, or no memory is left to read on.
 #[derive(Clone, Copy, Debug, PartialEq, Eq)]
 pub enum LineError {
     Unreadable,
     NoMemory,
-}
-
-impl From<AllocError> for LineError {
-    ghost from_gives = { λ _ r. r ≡ NoMemory };
-
-    fn from(_: AllocError) -> LineError {
-        LineError::NoMemory
-    }
 }
 
 impl<T: Drop> From<AllocFailed<T>> for LineError {

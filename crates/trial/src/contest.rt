@@ -71,6 +71,7 @@ impl Contest<'_> {
     // Lets the guest go on.
     fn go_on(&mut self) -> Result<(), AllocError> {
         let g = &mut self.guest;
+        // A drawn number picks the step: closures in a list would say the same, with a type for the list beside.
         match g.random.below(5) {
             0 => g.spoil(),
             1 => g.let_any_wait(),

@@ -34,6 +34,7 @@ impl Guest {
     // A state that is none, or another one.
     fn misstate(&mut self) -> Result<(), AllocError> {
         let r = &mut self.random;
+        // A drawn number picks the step: closures in a list would say the same, with a type for the list beside.
         match r.below(6) {
             0 => self.state.clear(),
             1 => self.state.truncate(1),
@@ -56,6 +57,7 @@ impl Guest {
 
     // Changes one thing that a call may be refused for.
     fn mislead_once(&mut self) -> Result<(), AllocError> {
+        // A drawn number picks the step: closures in a list would say the same, with a type for the list beside.
         match self.random.below(4) {
             0 => self.misplace(),
             1 => self.shift(),

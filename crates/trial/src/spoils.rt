@@ -119,6 +119,7 @@ impl Guest {
     // One change.
     pub fn spoil(&mut self) {
         let i = self.any_index();
+        // A drawn number picks the step: closures in a list would say the same, with a type for the list beside.
         match self.random.below(10) {
             0 | 1 | 2 | 3 => self.move_to_edge(),
             4 => self.miscount(),
