@@ -1,4 +1,4 @@
-// A look at the ring: it only reads, each number at most once, and all that a serving needs is in the job behind it.
+// A look at the ring: it only reads, and all that a serving needs is in the job behind it, so that nothing is read a second time.
 ghost use Rattle.std.specs.Prelude.{◌≡◌, ◌+◌, ◌*◌, ◌<◌, ◌≤◌, true, Ok, OnOk};
 ghost use Rattle.vring.specs.Programs.{ends, leaves};
 ghost use Rattle.vring.specs.Rings.{ends_at};
