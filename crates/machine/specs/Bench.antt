@@ -1,6 +1,7 @@
 -- What a script works on, as lists of bytes.
-use Rattle.std.specs.Prelude.{ℕ, List, [], ◌∷◌}
+use Rattle.std.specs.Prelude.{ℕ, List, [], ◌∷◌, vec_items}
 use Rattle.vring.specs.Rings.{Ring}
+use Rattle.machine.specs.declared.machine.Machine.{Machine}
 
 -- guest memory, the ring in it, and the device's state and contents
 pub record Bench : Type 0 where
@@ -8,6 +9,9 @@ pub record Bench : Type 0 where
   pub ring : Ring
   pub state : List ℕ
   pub kept : List ℕ
+
+abbrev pub bench_of : Machine → Bench
+bench_of m = record { memory = vec_items m.memory; ring = record { size = m.ring.size; base = m.ring.base }; state = m.served ∷ m.stopped ∷ []; kept = vec_items m.kept }
 
 -- before the first command: no memory, no ring, a new device that keeps nothing
 abbrev pub start : Bench

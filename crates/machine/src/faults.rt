@@ -2,6 +2,7 @@
 ghost use Rattle.std.specs.Prelude.{◌≡◌};
 ghost use Rattle.serving.specs.Refusals.{refusal_number};
 ghost use Rattle.machine.specs.Refusals.{number_of, place_of};
+ghost use Rattle.machine.specs.Bench.{bench_of};
 ghost use Rattle.machine.specs.Steps.{ring_fault, state_fault, fault};
 
 use crate::machine::{Machine, Ring};
@@ -28,26 +29,25 @@ impl Ring {
     }
 }
 
-// What is wrong with the state.
-fn state_fault(state: [u32; 2]) -> Refusal
-    ensures { result ≡ state_fault state }
-{
-    let [served, _] = state;
-    if served < 65536 {
-        Refusal::State(2)
-    } else {
-        Refusal::State(1)
-    }
-}
-
 impl Machine {
+    // What is wrong with the state.
+    fn state_fault(&self) -> Refusal
+        ensures { result ≡ state_fault (bench_of self.now).state }
+    {
+        if self.served < 65536 {
+            Refusal::State(2)
+        } else {
+            Refusal::State(1)
+        }
+    }
+
     // What is wrong where serving is refused.
     pub fn fault(&self, refused: Refused, times: u64) -> Refusal
-        ensures { result ≡ fault (refusal_number refused) times self.now }
+        ensures { result ≡ fault (refusal_number refused) times (bench_of self.now) }
     {
         match refused {
             Refused::Ring => self.ring.fault(self.memory.len()),
-            Refused::State => state_fault(self.state),
+            Refused::State => self.state_fault(),
             Refused::Contents => Refusal::Kept(self.kept.len() as u64),
             Refused::Times => Refusal::Times(times),
         }

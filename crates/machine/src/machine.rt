@@ -1,5 +1,4 @@
 // What a script works on.
-use std::marker::Model;
 
 // A ring of so many places, which begins there; it may be any two numbers.
 #[derive(Clone, Copy, Debug, PartialEq, Eq)]
@@ -9,20 +8,13 @@ pub struct Ring {
 }
 
 // Guest memory, where its ring stands, and the device's state and contents.
+// It has no model, and the state is two fields: contracts would no longer see what their types say, that there are two numbers and
+// how large each may be.
 #[derive(Drop)]
 pub struct Machine {
     pub memory: Vec<u8>,
     pub ring: Ring,
-    pub state: [u32; 2],
+    pub served: u32,
+    pub stopped: u32,
     pub kept: Vec<u8>,
-}
-
-// Contracts see the lists of bytes and numbers.
-impl Model for Machine {
-    ghost use Rattle.std.specs.Prelude.{vec_items};
-    ghost use Rattle.machine.specs.Bench.{Bench};
-
-    ghost Value = { Bench };
-
-    ghost view = { λ m. record { memory = vec_items m.memory; ring = record { size = m.ring.size; base = m.ring.base }; state = m.state; kept = vec_items m.kept } };
 }

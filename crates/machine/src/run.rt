@@ -1,7 +1,7 @@
 // A whole script.
 ghost use Rattle.std.specs.Prelude.{◌≡◌, [], map, string_bytes};
 ghost use Rattle.script.specs.Commands.{cmd_of};
-ghost use Rattle.machine.specs.Bench.{start};
+ghost use Rattle.machine.specs.Bench.{bench_of, start};
 ghost use Rattle.machine.specs.Runs.{run, play, Ended, Runs};
 
 use crate::halt::Halt;
@@ -31,19 +31,20 @@ fn end(halt: Halt, out: &mut String) -> Halt
 impl Machine {
     // No memory, no ring, and a new device that keeps nothing.
     pub fn new(heap: Global) -> Machine
-        ensures { result ≡ start }
+        ensures { bench_of result ≡ start }
     {
         Machine {
             memory: Vec::new(heap),
             ring: Ring { size: 0, base: 0 },
-            state: [0, 0],
+            served: 0,
+            stopped: 0,
             kept: Vec::new(heap),
         }
     }
 
     // Does what the commands ask, one after the other, up to one that is refused.
     pub fn run(&mut self, heap: Global, commands: &[Command], out: &mut String) -> Result<(), Halt>
-        ensures { Runs result (run (map cmd_of commands.now) self.old) self.new (string_bytes out.old) (string_bytes out.new) }
+        ensures { Runs result (run (map cmd_of commands.now) (bench_of self.old)) (bench_of self.new) (string_bytes out.old) (string_bytes out.new) }
     {
         for command in commands {
             if let Err(halt) = self.step(heap, command, out) {
@@ -55,7 +56,7 @@ impl Machine {
 
     // Reads a script whole, and then does what it says.
     pub fn play(&mut self, heap: Global, text: &[u8], out: &mut String) -> Result<(), Halt>
-        ensures { Runs result (play text.now self.old) self.new (string_bytes out.old) (string_bytes out.new) }
+        ensures { Runs result (play text.now (bench_of self.old)) (bench_of self.new) (string_bytes out.old) (string_bytes out.new) }
     {
         match parse(heap, text) {
             Ok(commands) => self.run(heap, &commands, out),

@@ -4,6 +4,7 @@ ghost use Rattle.serving.specs.Entries.{refusal, ServeSays};
 ghost use Rattle.serving.specs.Refusals.{said};
 ghost use Rattle.script.specs.Commands.{cmd_of};
 ghost use Rattle.script.specs.Format.{memory as a_memory, bytes_at, kept as some_kept, serve as some_servings, anew, piece as a_piece};
+ghost use Rattle.machine.specs.Bench.{bench_of};
 ghost use Rattle.machine.specs.Steps.{counted, step};
 ghost use Rattle.machine.specs.Runs.{Steps};
 
@@ -28,7 +29,7 @@ fn count_up(heap: Global, n: u64) -> Result<Vec<u8>, AllocError>
 impl Machine {
     // A memory of `n` bytes, all 0.
     fn set_memory(&mut self, heap: Global, n: u64) -> Result<(), Halt>
-        ensures { Steps result (step (a_memory n) self.old) self.old self.new [] [] }
+        ensures { Steps result (step (a_memory n) (bench_of self.old)) (bench_of self.old) (bench_of self.new) [] [] }
     {
         if n > 65536 {
             return Err(Halt::from(Refusal::MemoryTooLong));
@@ -39,7 +40,7 @@ impl Machine {
 
     // The guest writes bytes.
     fn write_bytes(&mut self, at: u64, bytes: &[u8]) -> Result<(), Halt>
-        ensures { Steps result (step (bytes_at at bytes.now) self.old) self.old self.new [] [] }
+        ensures { Steps result (step (bytes_at at bytes.now) (bench_of self.old)) (bench_of self.old) (bench_of self.new) [] [] }
     {
         let n = self.memory.len() as u64;
         let count = bytes.len() as u64;
@@ -53,7 +54,7 @@ impl Machine {
 
     // The device keeps `n` bytes.
     fn set_kept(&mut self, heap: Global, n: u64) -> Result<(), Halt>
-        ensures { Steps result (step (some_kept n) self.old) self.old self.new [] [] }
+        ensures { Steps result (step (some_kept n) (bench_of self.old)) (bench_of self.old) (bench_of self.new) [] [] }
     {
         if n > 4096 {
             return Err(Halt::from(Refusal::Kept(n)));
@@ -64,23 +65,27 @@ impl Machine {
 
     // At most `times` servings.
     fn serve_all(&mut self, times: u64) -> Result<Done, Refused>
-        ensures does { ServeSays (refusal self.old.ring self.old.memory self.old.state self.old.kept times) self.old.ring self.old.memory self.old.state self.old.kept times (said result) self.new.memory self.new.state self.new.kept }
-        ensures ok { OnOk result (refusal self.old.ring self.old.memory self.old.state self.old.kept times ≡ 0) }
-        ensures ring { self.new.ring ≡ self.old.ring }
+        ensures does { ServeSays (refusal (bench_of self.old).ring self.old.memory.items (bench_of self.old).state self.old.kept.items times) (bench_of self.old).ring self.old.memory.items (bench_of self.old).state self.old.kept.items times (said result) self.new.memory.items (bench_of self.new).state self.new.kept.items }
+        ensures ok { OnOk result (refusal (bench_of self.old).ring self.old.memory.items (bench_of self.old).state self.old.kept.items times ≡ 0) }
+        ensures ring { (bench_of self.new).ring ≡ (bench_of self.old).ring }
     {
-        try_serve(
+        let mut state = [self.served, self.stopped];
+        let served = try_serve(
             self.ring.size,
             self.ring.base,
             &mut self.memory,
-            &mut self.state,
+            &mut state,
             &mut self.kept,
             times,
-        )
+        );
+        self.served = state[0];
+        self.stopped = state[1];
+        served
     }
 
     // At most `times` servings; what changed and what is answered is printed.
     fn serve_chains(&mut self, heap: Global, times: u64, out: &mut String) -> Result<(), Halt>
-        ensures { Steps result (step (some_servings times) self.old) self.old self.new (string_bytes out.old) (string_bytes out.new) }
+        ensures { Steps result (step (some_servings times) (bench_of self.old)) (bench_of self.old) (bench_of self.new) (string_bytes out.old) (string_bytes out.new) }
     {
         let memory = self.memory.to_vec(heap)?;
         let kept = self.kept.to_vec(heap)?;
@@ -96,16 +101,19 @@ impl Machine {
 
     // The device is reset.
     fn reset(&mut self, out: &mut String) -> Result<(), Halt>
-        ensures { Steps result (step (anew) self.old) self.old self.new (string_bytes out.old) (string_bytes out.new) }
+        ensures { Steps result (step (anew) (bench_of self.old)) (bench_of self.old) (bench_of self.new) (string_bytes out.old) (string_bytes out.new) }
     {
-        let done = begin_anew(&mut self.state);
+        let mut state = [self.served, self.stopped];
+        let done = begin_anew(&mut state);
+        self.served = state[0];
+        self.stopped = state[1];
         write_answer(out, done)?;
         Ok(())
     }
 
     // The part of memory that a descriptor names is printed.
     fn show_piece(&self, i: u64, out: &mut String) -> Result<(), Halt>
-        ensures { Steps result (step (a_piece i) self.now) self.now self.now (string_bytes out.old) (string_bytes out.new) }
+        ensures { Steps result (step (a_piece i) (bench_of self.now)) (bench_of self.now) (bench_of self.now) (string_bytes out.old) (string_bytes out.new) }
     {
         let part = piece(self.ring.size, self.ring.base, &self.memory, i);
         write_part(out, i, part)?;
@@ -114,7 +122,7 @@ impl Machine {
 
     // Does what a command asks.
     pub fn step(&mut self, heap: Global, command: &Command, out: &mut String) -> Result<(), Halt>
-        ensures { Steps result (step (cmd_of command.now) self.old) self.old self.new (string_bytes out.old) (string_bytes out.new) }
+        ensures { Steps result (step (cmd_of command.now) (bench_of self.old)) (bench_of self.old) (bench_of self.new) (string_bytes out.old) (string_bytes out.new) }
     {
         match command {
             Command::Memory(n) => self.set_memory(heap, *n),
