@@ -6,7 +6,7 @@ use std::alloc::{AllocError, Global};
 use std::test::*;
 
 // Checks that the device stops before it has served any, and that a second call changes nothing.
-fn stops(heap: Global, mut s: Setup) -> Result<(), Fail> {
+fn stops(mut s: Setup) -> Result<(), Fail> {
     let mut want = s.clone()?;
     let served = s.state.first().copied().unwrap_or(0);
     want.put_state(served, 1);
@@ -18,7 +18,7 @@ fn stops(heap: Global, mut s: Setup) -> Result<(), Fail> {
 
 // Checks that the device stops at a chain of these two descriptors.
 fn stops_at(heap: Global, d: Descriptor, e: Descriptor) -> Result<(), Fail> {
-    stops(heap, Setup::chain_of(heap, d, e)?)
+    stops(Setup::chain_of(heap, d, e)?)
 }
 
 // A part in the ring, where the response would be written.
@@ -41,10 +41,10 @@ fn farther(heap: Global, addr: u16, len: u16) -> Result<Setup, AllocError> {
 // Parts over the ring's first byte, over its last, over all of it, and of no bytes inside.
 #[test]
 fn part_over_the_edge(rt: HostRuntime) -> Result<(), Fail> {
-    stops(rt.alloc(), farther(rt.alloc(), 10, 11)?)?;
-    stops(rt.alloc(), farther(rt.alloc(), 51, 17)?)?;
-    stops(rt.alloc(), farther(rt.alloc(), 10, 60)?)?;
-    stops(rt.alloc(), farther(rt.alloc(), 30, 0)?)
+    stops(farther(rt.alloc(), 10, 11)?)?;
+    stops(farther(rt.alloc(), 51, 17)?)?;
+    stops(farther(rt.alloc(), 10, 60)?)?;
+    stops(farther(rt.alloc(), 30, 0)?)
 }
 
 // Parts that do not lie in memory.
@@ -76,7 +76,7 @@ fn index_outside(rt: HostRuntime) -> Result<(), Fail> {
     stops_at(rt.alloc(), readable(40, 2, 65535), writable(48, 17))?;
     let mut s = Setup::example(rt.alloc())?;
     s.offer(0, 2);
-    stops(rt.alloc(), s)
+    stops(s)
 }
 
 // A readable descriptor behind a writable one.
@@ -102,7 +102,7 @@ fn readable_behind_writable(rt: HostRuntime) -> Result<(), Fail> {
 fn too_many_wait(rt: HostRuntime) -> Result<(), Fail> {
     let mut s = Setup::example(rt.alloc())?;
     s.count_available(3);
-    stops(rt.alloc(), s)
+    stops(s)
 }
 
 // A count that was run backwards: 65,500 would wait.
@@ -111,7 +111,7 @@ fn count_runs_backwards(rt: HostRuntime) -> Result<(), Fail> {
     let mut s = Setup::example(rt.alloc())?;
     s.put_state(100, 0);
     s.count_available(64);
-    stops(rt.alloc(), s)
+    stops(s)
 }
 
 // A bad chain behind a good one: the good one is served first.

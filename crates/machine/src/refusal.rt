@@ -10,7 +10,7 @@ pub enum Refusal {
     RingOutside,
     #[error("a memory may have up to 65536 bytes")]
     MemoryTooLong,
-    // The place says which of its numbers is wrong.
+    // The place says which of its numbers is wrong, as the text format has it.
     #[error("the device state is not two numbers, the first below 65536 and the second 0 or 1")]
     State(u64),
     #[error("a device may keep up to 4096 bytes, not {0}")]

@@ -1,5 +1,5 @@
 // A whole script.
-ghost use Rattle.std.specs.Prelude.{◌≡◌, [], map, string_bytes};
+ghost use Rattle.std.specs.Prelude.{◌≡◌, map, string_bytes};
 ghost use Rattle.script.specs.Commands.{cmd_of};
 ghost use Rattle.machine.specs.Bench.{bench_of, start};
 ghost use Rattle.machine.specs.Runs.{run, play, Ended, Runs};

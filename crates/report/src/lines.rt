@@ -27,7 +27,7 @@ pub enum Line<'a> {
         n: u64,
         bytes: Option<&'a [u8]>,
     },
-    // Something was refused at a place: `refused 1 at 2`.
+    // Something was refused at a place: `refused 1 at 2`. The text format has numbers for both.
     Refused {
         what: u64,
         at: u64,

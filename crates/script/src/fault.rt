@@ -14,7 +14,7 @@ pub enum Fault {
     NoMemory,
 }
 
-// Both conversions are by hand, since what the derive writes has no contract.
+// Both conversions are by hand, since what the derive writes has no contract; the first is for callers that read with more memory of their own.
 impl From<AllocError> for Fault {
     ghost from_gives = { λ _ r. r ≡ NoMemory };
 

@@ -13,6 +13,7 @@ pub enum LineError {
     NoMemory,
 }
 
+// By hand, since what a derive writes has no contract.
 impl<T: Drop> From<AllocFailed<T>> for LineError {
     ghost from_gives = { λ _ r. r ≡ NoMemory };
 

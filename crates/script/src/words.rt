@@ -28,7 +28,7 @@ fn is_blank(b: u8) -> bool
     matches!(b, b' ' | b'\t' | b'\r')
 }
 
-// How many blanks a text begins with.
+// How many blanks a text begins with. It and the next differ in a `!`: a test as a parameter would need its contract through a bound.
 fn blank_len(text: &[u8]) -> usize
     ensures { result ≡ prefix_len blank text.now }
 {

@@ -1,6 +1,6 @@
 // The entries: they take whatever they are lent, or refuse it and change nothing.
-ghost use Rattle.std.specs.Prelude.{◌≡◌, ◌+◌, ◌*◌, ◌<◌, ◌≤◌, true, false, List, [], ◌∷◌, length, MatchOption, OnOk};
-ghost use Rattle.vring.specs.Rings.{ends_at};
+// What they take and answer is as it was given, for callers in Rattle and in C.
+ghost use Rattle.std.specs.Prelude.{◌≡◌, OnOk};
 ghost use Rattle.vring.specs.Layouts.{ring_of};
 ghost use Rattle.device.specs.Responds.{device_of};
 ghost use Rattle.model.specs.Promises.{Sound};

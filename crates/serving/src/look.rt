@@ -1,5 +1,6 @@
 // A look at the ring: it only reads, and all that a serving needs is in the job behind it, so that nothing is read a second time.
-ghost use Rattle.std.specs.Prelude.{◌≡◌, ◌+◌, ◌*◌, ◌<◌, ◌≤◌, true, Ok, OnOk};
+// That the ring lies in memory, and a chain's parts, are facts of two parameters; no type of one of them could say them.
+ghost use Rattle.std.specs.Prelude.{◌≡◌, ◌<◌, ◌≤◌, true, Ok, OnOk};
 ghost use Rattle.vring.specs.Programs.{ends, leaves};
 ghost use Rattle.vring.specs.Rings.{ends_at};
 ghost use Rattle.vring.specs.Layouts.{ring_of};
@@ -16,6 +17,7 @@ use vring::layout::Layout;
 use vring::memory::GuestMemory;
 
 // Whether a chain waits, which is then in the job, for a device that has served so many; an error where the guest breaks the rules.
+// The job is filled and not answered, as there is one for a call and no heap.
 pub fn look<M: GuestMemory>(
     layout: &Layout,
     m: &mut M,

@@ -1,7 +1,7 @@
 // One serving, and a budget of them.
 // Ring and memory, state and contents stay parameters of their own: a struct that borrows them would owe in each contract that its
 // references are the same as before (as `View` does), a clause more for each parameter less.
-ghost use Rattle.std.specs.Prelude.{◌≡◌, ◌+◌, ◌<◌, ◌≤◌, false, length};
+ghost use Rattle.std.specs.Prelude.{◌≡◌, ◌≤◌, false};
 ghost use Rattle.vring.specs.Programs.{ends, leaves};
 ghost use Rattle.vring.specs.Rings.{ends_at};
 ghost use Rattle.vring.specs.Layouts.{ring_of};

@@ -1,4 +1,5 @@
 // What a serving writes into guest memory.
+// That the ring lies in memory, and a chain's parts, are facts of two parameters; no type of one of them could say them.
 ghost use Rattle.std.specs.Prelude.{◌≡◌, ◌+◌, ◌<◌, ◌≤◌, length};
 ghost use Rattle.vring.specs.Programs.{leaves};
 ghost use Rattle.vring.specs.Rings.{ends_at};

@@ -110,6 +110,7 @@ impl Draft<'_> {
                 next,
             },
         );
+        // What is written is counted over many calls, so no loop has the index.
         self.at = self.at.wrapping_add(1);
     }
 

@@ -1,4 +1,5 @@
-// A plain reading of the rules of the ring, for the entries to be held to.
+// A plain reading of the rules of the ring, for the entries to be held to. It shares no code with them but the type of the answer, with
+// its numbers of refusals: so it has a ring, a device with its state, a capacity and a response of its own.
 ghost use Rattle.std.specs.Prelude.{◌^◌, ◌<◌};
 
 use crate::bytes::{number, put_bytes, put_number};

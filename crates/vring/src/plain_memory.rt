@@ -1,5 +1,5 @@
 // Memory as it stands, as guest memory.
-ghost use Rattle.std.specs.Prelude.{◌≡◌, ℕ, ◌+◌, ◌<◌, ◌≤◌, length};
+ghost use Rattle.std.specs.Prelude.{◌≡◌, length};
 ghost use Rattle.vring.specs.Plain.{lent};
 
 use crate::memory::GuestMemory;
