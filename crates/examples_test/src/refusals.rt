@@ -1,4 +1,4 @@
-// Calls that are refused, and change nothing.
+// Calls that are refused, and change nothing. The numbers are those that the entries are to answer.
 use crate::compare::same;
 use crate::setup::*;
 use serving::done::Done;

@@ -55,7 +55,7 @@ impl Machine {
 }
 
 impl Refusal {
-    // The number by which it is printed.
+    // The number by which it is printed: that of the entries' refusal for the first four, and one that the entries do not have.
     pub fn number(&self) -> u64
         ensures { result ≡ number_of self.now }
     {

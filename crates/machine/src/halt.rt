@@ -20,6 +20,7 @@ pub enum Halt {
     NoMemory,
 }
 
+// The conversions are by hand, since what a derive writes has no contract.
 impl From<Refusal> for Halt {
     ghost from_gives = { λ refusal r. r ≡ Refused refusal };
 

@@ -26,7 +26,7 @@ pub fn write_changes(out: &mut String, store: Store, before: &[u8], after: &[u8]
     Ok(())
 }
 
-// Writes a line for what serving answers.
+// Writes a line for what serving answers. It is no `From`: both types are of other crates.
 pub fn write_answer(out: &mut String, done: Done) -> fmt::Result
     ensures { OnOk result (string_bytes out.new ≡ string_bytes out.old ++ answered done) }
 {

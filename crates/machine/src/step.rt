@@ -26,6 +26,7 @@ fn count_up(heap: Global, n: u64) -> Result<Vec<u8>, AllocError>
     (0..n).map(|i| (i % 256) as u8).collect(heap)
 }
 
+// Each clause names the command that its function does; and what allocates is passed the allocator, as the library has it.
 impl Machine {
     // A memory of `n` bytes, all 0.
     fn set_memory(&mut self, heap: Global, n: u64) -> Result<(), Halt>

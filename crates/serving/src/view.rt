@@ -28,6 +28,7 @@ pub struct View<'l, 'm, M> {
 
 impl<'l, 'm, M: GuestMemory> Queue<'l, 'm, M> {
     // The chain from `head` on, listed in `out`, which lists nothing yet; an error where it is bad.
+    // `View` asks for it with its own head: no proof is generated where a `&mut` is used from two fields deep.
     fn follow(&mut self, head: u16, out: &mut Chain) -> Result<(), Breach>
         requires ring { ends_at (ring_of self.old.layout.now) ≤ M.holds self.old.memory.now }
         requires empty { out.old ≡ [] }

@@ -267,7 +267,7 @@ impl Reading<'_> {
         Ok(())
     }
 
-    // Serves the next chain; false where none is served.
+    // Serves the next chain; false where none is served. Nothing else is answered: a stop is told by the device.
     fn serve_next(&mut self) -> Result<bool, AllocError> {
         if self.device.has_stopped || self.pending() == 0 {
             return Ok(false);
