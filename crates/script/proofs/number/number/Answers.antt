@@ -2,9 +2,6 @@ use Rattle.std.proofs.Common.{sym, ◌∙◌}
 use Rattle.script.proofs.Values.{no_number, digits_are_text, parsed}
 use Rattle.script.proofs.number.number.Goals as goal
 
-pub returns-then-not-is_digits : goal.returns-then-not-is_digits
-returns-then-not-is_digits c = sym (no_number c.args.word.now (sym c.if-not-is_digits.ensures))
-
 pub returns-in_default : goal.returns-in_default
 returns-in_default c = absurd (c.in_default.ensures.cases.0 (digits_are_text c.args.word.now (sym c.if-not-is_digits.ensures)))
 
