@@ -1,4 +1,4 @@
-// The functions that C calls. None asks anything of its arguments: what is wrong with them is refused.
+// The functions that C calls, with the parameters that were given for them. None asks anything of its arguments: what is wrong with them is refused.
 ghost use Rattle.std.specs.Prelude.{◌≡◌, take, drop};
 ghost use Rattle.serving.specs.Entries.{part};
 ghost use Rattle.capi.specs.Numbers.{part_numbers, ServeNumbers, AnewNumbers};

@@ -4,6 +4,7 @@ use Rattle.vring.specs.Programs.{Prog, ret, get, then, pair}
 use Rattle.chains.specs.Descriptors.{has_next, descriptor_at, next_at, descriptor_prog}
 use Rattle.chains.specs.declared.descriptor.Descriptor.{Descriptor}
 use Rattle.chains.specs.declared.breach.Breach.{Breach}
+use Rattle.chains.specs.declared.chain.Chain.{Chain}
 
 -- the descriptors of a chain in their order, or that the chain is bad
 pub data Walk : Type 0 where
@@ -34,6 +35,10 @@ unfoldable pub chain_prog : (most : ℕ) → (t n i : ℕ) → Prog Walk
 chain_prog zero t n i = ret bad
 chain_prog (suc f) t n i =
     cond (nat_lt i n) (then (descriptor_prog (t + 8 * i)) (λ d. link_prog (t + 8 * i) d (λ j. chain_prog f t n j))) (ret bad)
+
+-- the descriptors that a chain lists
+abbrev pub listed : Chain → List Descriptor
+listed c = c.descriptors.items
 
 -- what following answers: an error if the chain is bad, else its descriptors stand behind those before
 abbrev pub Follows : Walk → Result (Unit {0}) Breach → (before after : List Descriptor) → Type 0

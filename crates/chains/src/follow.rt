@@ -2,7 +2,7 @@
 ghost use Rattle.std.specs.Prelude.{◌≡◌, ◌+◌, ◌*◌, ◌≤◌, length};
 ghost use Rattle.vring.specs.Programs.{ends, leaves};
 ghost use Rattle.chains.specs.Descriptors.{descriptor_prog};
-ghost use Rattle.chains.specs.Chains.{chain_prog, Follows};
+ghost use Rattle.chains.specs.Chains.{chain_prog, listed, Follows};
 
 use crate::breach::Breach;
 use crate::chain::Chain;
@@ -25,6 +25,7 @@ fn read_descriptor<M: GuestMemory>(m: &mut M, at: usize) -> Descriptor
 }
 
 // The chain from descriptor `i` on, of at most `left`, listed behind what `out` lists; an error where it is bad.
+// The list is filled and not answered, as there is one for a call and no heap.
 pub fn follow<M: GuestMemory>(
     table: &Table,
     m: &mut M,
@@ -33,8 +34,8 @@ pub fn follow<M: GuestMemory>(
     out: &mut Chain,
 ) -> Result<(), Breach>
     requires fits { table.now.at + 8 * table.now.count ≤ M.holds m.old }
-    requires room { length out.old + left ≤ 64 }
-    ensures value { Follows (ends M.acts (chain_prog left table.now.at table.now.count i) m.old) result out.old out.new }
+    requires room { length (listed out.old) + left ≤ 64 }
+    ensures value { Follows (ends M.acts (chain_prog left table.now.at table.now.count i) m.old) result (listed out.old) (listed out.new) }
     ensures then { m.new ≡ leaves M.acts (chain_prog left table.now.at table.now.count i) m.old }
     ensures size { M.holds m.new ≡ M.holds m.old }
 {

@@ -7,6 +7,7 @@ pub mod descriptor;
 pub mod flags;
 pub mod follow;
 pub mod laws;
+pub mod listing;
 pub mod region;
 pub mod ring_parts;
 pub mod table;

@@ -1,5 +1,6 @@
 // Whether a chain may be served.
 ghost use Rattle.std.specs.Prelude.{◌≡◌, false};
+ghost use Rattle.chains.specs.Chains.{listed};
 ghost use Rattle.chains.specs.Usable.{clear, fits, usable};
 
 use crate::chain::Chain;
@@ -29,7 +30,7 @@ impl Descriptor {
 impl Chain {
     // Whether each part fits and no readable descriptor stands behind a writable one.
     pub fn is_usable(&self, regions: &[Region], n: usize) -> bool
-        ensures { result ≡ usable regions.now n false self.now }
+        ensures { result ≡ usable regions.now n false (listed self.now) }
     {
         let mut written = false;
         for d in self.descriptors() {

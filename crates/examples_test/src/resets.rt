@@ -1,4 +1,4 @@
-// The device reset.
+// The device reset. The number of a refusal is that which the entry is to answer.
 use crate::setup::*;
 use serving::done::Done;
 use serving::entries::begin_anew;

@@ -106,7 +106,7 @@ impl Setup {
         self.put_number(at + 6, d.next);
     }
 
-    // Where the available count stands.
+    // Where the available count stands: by a sum of its own, to test the ring's.
     fn available_at(&self) -> usize
         ensures { result < 2 ^ 32 }
     {

@@ -11,7 +11,7 @@ use serving::refusal::Refusal as Refused;
 use vring::ring::is_size;
 
 impl Ring {
-    // What is wrong with the ring, in a memory of `n` bytes.
+    // What is wrong with the ring, in a memory of `n` bytes: which of the tests of a layout fails, which does not say which.
     #[tactic(auto, using(crate::proofs::Sizes::size_few))]
     fn fault(self, n: usize) -> Refusal
         ensures { result ≡ ring_fault (record { size = self.size; base = self.base }) n }

@@ -28,7 +28,7 @@ fn count_up(heap: Global, n: u64) -> Result<Vec<u8>, AllocError>
 
 // Each clause names the command that its function does; and what allocates is passed the allocator, as the library has it.
 impl Machine {
-    // A memory of `n` bytes, all 0.
+    // A memory of `n` bytes, all 0. Its limit and that of contents are the entries', told here by the command that breaks them.
     fn set_memory(&mut self, heap: Global, n: u64) -> Result<(), Halt>
         ensures { Steps result (step (a_memory n) (bench_of self.old)) (bench_of self.old) (bench_of self.new) [] [] }
     {

@@ -1,4 +1,4 @@
-// What one line of a script says.
+// What one line of a script says. What allocates is passed the allocator, as the library has it.
 ghost use Rattle.std.specs.Prelude.{◌≡◌, ◌≢◌, ℕ, codes, Some, vec_items};
 ghost use Rattle.std.specs.Option.{option_map};
 ghost use Rattle.script.specs.Format.{row as row_of, laid as laid_of, bytes_in, only as only_of, alone, anew as anew_cmd, number_at as numbers_at, command as command_of, line as line_of};

@@ -6,7 +6,7 @@ ghost use Rattle.script.specs.Parses.{fault_at};
 use crate::fault::Fault;
 use std::alloc::AllocFailed;
 
-// It says nothing that can be read, or no memory is left to read on.
+// It says nothing that can be read, or no memory is left to read on. A line does not know its number, so it is no `Fault` yet.
 #[derive(Clone, Copy, Debug, PartialEq, Eq)]
 pub enum LineError {
     Unreadable,

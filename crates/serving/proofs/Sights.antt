@@ -7,7 +7,7 @@ use Rattle.vring.specs.Rings.{Ring, available_at, head_at}
 use Rattle.vring.specs.Layouts.{ring_of}
 use Rattle.vring.specs.declared.layout.Layout.{Layout}
 use Rattle.vring.proofs.Binds.{ends_by, leaves_by, ends_get, leaves_get}
-use Rattle.chains.specs.Chains.{Walk, bad, goes, chain_prog, Follows}
+use Rattle.chains.specs.Chains.{Walk, bad, goes, chain_prog, listed, Follows}
 use Rattle.chains.specs.Usable.{usable}
 use Rattle.chains.specs.declared.breach.Breach.{Breach}
 use Rattle.chains.specs.declared.descriptor.Descriptor.{Descriptor}
@@ -124,7 +124,7 @@ seen_halt nothing j a b z e = absurd (true≢false (sym (ap is_err z) ∙ ap is_
 seen_halt halt j a b z e = refl
 seen_halt (job h ds q) j a b z e = absurd (true≢false (sym (ap is_err z) ∙ ap is_err e.0))
 
-pub seen_ready : (l : Look) (j : Job) (a : Result Bool Breach) → a ≡ Ok true → Sees l a j → l ≡ job j.head j.chain j.request.items
+pub seen_ready : (l : Look) (j : Job) (a : Result Bool Breach) → a ≡ Ok true → Sees l a j → l ≡ job j.head (listed j.chain) j.request.items
 seen_ready nothing j a z e = absurd (true≢false (ok_of (sym z ∙ e)))
 seen_ready halt j a z e = absurd (true≢false (sym e ∙ ap is_err z))
 seen_ready (job h ds q) j a z e = rw (e.1, e.2, e.3) refl

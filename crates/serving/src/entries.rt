@@ -96,7 +96,7 @@ fn reset(state: &mut [u32]) -> Done
     Done::Anew
 }
 
-// Resets the device, whose contents stay.
+// Resets the device, whose contents stay. It hands its state on to `reset`, and is proved by hand.
 pub fn begin_anew(state: &mut [u32]) -> Done
     ensures { AnewSays state.old result state.new }
 {

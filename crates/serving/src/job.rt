@@ -1,5 +1,6 @@
 // What a look finds.
 ghost use Rattle.std.specs.Prelude.{◌≡◌, []};
+ghost use Rattle.chains.specs.Chains.{listed};
 
 use arrayvec::ArrayVec;
 use chains::chain::Chain;
@@ -18,7 +19,7 @@ impl Job {
     // A job with nothing in it.
     pub fn new() -> Job
         ensures head { result.head ≡ 0 }
-        ensures chain { result.chain ≡ [] }
+        ensures chain { listed result.chain ≡ [] }
         ensures request { result.request.items ≡ [] }
     {
         Job {

@@ -4,6 +4,7 @@ ghost use Rattle.std.specs.Prelude.{◌≡◌, ◌<◌, ◌≤◌, true, Ok, OnO
 ghost use Rattle.vring.specs.Programs.{ends, leaves};
 ghost use Rattle.vring.specs.Rings.{ends_at};
 ghost use Rattle.vring.specs.Layouts.{ring_of};
+ghost use Rattle.chains.specs.Chains.{listed};
 ghost use Rattle.transfer.specs.Responses.{Within};
 ghost use Rattle.serving.specs.Turns.{look_prog, next_prog};
 ghost use Rattle.serving.specs.Sees.{Sees, Takes};
@@ -27,7 +28,7 @@ pub fn look<M: GuestMemory>(
     requires { ends_at (ring_of layout.now) ≤ M.holds m.old }
     ensures value { Sees (ends M.acts (look_prog (ring_of layout.now) (M.holds m.old) served) m.old) result job.new }
     ensures then { m.new ≡ leaves M.acts (look_prog (ring_of layout.now) (M.holds m.old) served) m.old }
-    ensures within { result ≡ Ok true → Within (M.holds m.old) job.new.chain }
+    ensures within { result ≡ Ok true → Within (M.holds m.old) (listed job.new.chain) }
     ensures size { M.holds m.new ≡ M.holds m.old }
 {
     let waiting = m.number(layout.available_at()).wrapping_sub(served) as usize;
@@ -51,7 +52,7 @@ fn take_next<M: GuestMemory>(
     requires { ends_at (ring_of layout.now) ≤ M.holds m.old }
     ensures value { Takes (ends M.acts (next_prog (ring_of layout.now) (M.holds m.old) served) m.old) result job.new }
     ensures then { m.new ≡ leaves M.acts (next_prog (ring_of layout.now) (M.holds m.old) served) m.old }
-    ensures within { OnOk result (Within (M.holds m.old) job.new.chain) }
+    ensures within { OnOk result (Within (M.holds m.old) (listed job.new.chain)) }
     ensures size { M.holds m.new ≡ M.holds m.old }
 {
     let mut view = View::next(layout, m, served);

@@ -12,7 +12,7 @@ pub struct Part {
     pub len: u16,
 }
 
-// The part that descriptor `at` of a ring names, if it lies in memory.
+// The part that descriptor `at` of a ring names, if it lies in memory; it takes what `piece` is given.
 #[tactic(auto, unfolding(crate::specs::Entries::part_ok, chains::specs::Descriptors::descriptor_at))]
 pub fn part_of(places: u64, begins: u64, memory: &[u8], at: u64) -> Option<Part>
     ensures { result ≡ part_place (record { size = places; base = begins }) memory.now at }

@@ -21,7 +21,7 @@ pub enum Refusal {
 }
 
 impl Refusal {
-    // The number by which it is answered.
+    // The number by which it is answered. A script's refusals have these numbers too, and cases and a number that are not here.
     pub fn number(self) -> u64
         ensures { result ≡ refusal_number self }
     {

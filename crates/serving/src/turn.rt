@@ -5,6 +5,7 @@ ghost use Rattle.std.specs.Prelude.{◌≡◌, ◌≤◌, false};
 ghost use Rattle.vring.specs.Programs.{ends, leaves};
 ghost use Rattle.vring.specs.Rings.{ends_at};
 ghost use Rattle.vring.specs.Layouts.{ring_of};
+ghost use Rattle.chains.specs.Chains.{listed};
 ghost use Rattle.transfer.specs.Responses.{finish_prog, Within};
 ghost use Rattle.device.specs.Responds.{device_of};
 ghost use Rattle.model.specs.Serving.{cut, device_after};
@@ -28,10 +29,10 @@ fn complete<M: GuestMemory>(
     job: &Job,
 )
     requires ring { ends_at (ring_of layout.now) ≤ M.holds m.old }
-    requires parts { Within (M.holds m.old) job.now.chain }
+    requires parts { Within (M.holds m.old) (listed job.now.chain) }
     requires running { progress.old.stopped ≡ false }
     ensures device { device_of progress.new kept.new ≡ device_after (device_of progress.old kept.old) job.now.request.items }
-    ensures then { m.new ≡ leaves M.acts (finish_prog (ring_of layout.now) progress.old.served job.now.head job.now.chain (cut kept.old job.now.chain job.now.request.items)) m.old }
+    ensures then { m.new ≡ leaves M.acts (finish_prog (ring_of layout.now) progress.old.served job.now.head (listed job.now.chain) (cut kept.old (listed job.now.chain) job.now.request.items)) m.old }
     ensures size { M.holds m.new ≡ M.holds m.old }
 {
     let response = respond(kept, job.request.as_slice());

@@ -3,7 +3,7 @@ ghost use Rattle.std.specs.Prelude.{◌≡◌, ◌≤◌, []};
 ghost use Rattle.vring.specs.Programs.{pair, ends, leaves};
 ghost use Rattle.vring.specs.Rings.{ends_at, head_at};
 ghost use Rattle.vring.specs.Layouts.{ring_of};
-ghost use Rattle.chains.specs.Chains.{chain_prog, Follows};
+ghost use Rattle.chains.specs.Chains.{chain_prog, listed, Follows};
 
 use chains::breach::Breach;
 use chains::chain::Chain;
@@ -31,8 +31,8 @@ impl<'l, 'm, M: GuestMemory> Queue<'l, 'm, M> {
     // `View` asks for it with its own head: no proof is generated where a `&mut` is used from two fields deep.
     fn follow(&mut self, head: u16, out: &mut Chain) -> Result<(), Breach>
         requires ring { ends_at (ring_of self.old.layout.now) ≤ M.holds self.old.memory.now }
-        requires empty { out.old ≡ [] }
-        ensures value { Follows (ends M.acts (chain_prog self.old.layout.now.size self.old.layout.now.base self.old.layout.now.size head) self.old.memory.now) result out.old out.new }
+        requires empty { listed out.old ≡ [] }
+        ensures value { Follows (ends M.acts (chain_prog self.old.layout.now.size self.old.layout.now.base self.old.layout.now.size head) self.old.memory.now) result (listed out.old) (listed out.new) }
         ensures then { self.new.memory.now ≡ leaves M.acts (chain_prog self.old.layout.now.size self.old.layout.now.base self.old.layout.now.size head) self.old.memory.now }
         ensures size { M.holds self.new.memory.now ≡ M.holds self.old.memory.now }
         ensures same { self.new.memory.ghost_name ≡ self.old.memory.ghost_name }
@@ -60,11 +60,11 @@ impl<'l, 'm, M: GuestMemory> View<'l, 'm, M> {
         }
     }
 
-    // The chain, listed in `out`, which lists nothing yet; an error where it is bad.
+    // The chain, listed in `out`, which lists nothing yet; an error where it is bad. There is one list for a call and no heap.
     pub fn follow(&mut self, out: &mut Chain) -> Result<(), Breach>
         requires ring { ends_at (ring_of self.old.queue.layout.now) ≤ M.holds self.old.queue.memory.now }
-        requires empty { out.old ≡ [] }
-        ensures value { Follows (ends M.acts (chain_prog self.old.queue.layout.now.size self.old.queue.layout.now.base self.old.queue.layout.now.size self.old.head) self.old.queue.memory.now) result out.old out.new }
+        requires empty { listed out.old ≡ [] }
+        ensures value { Follows (ends M.acts (chain_prog self.old.queue.layout.now.size self.old.queue.layout.now.base self.old.queue.layout.now.size self.old.head) self.old.queue.memory.now) result (listed out.old) (listed out.new) }
         ensures then { self.new.queue.memory.now ≡ leaves M.acts (chain_prog self.old.queue.layout.now.size self.old.queue.layout.now.base self.old.queue.layout.now.size self.old.head) self.old.queue.memory.now }
         ensures size { M.holds self.new.queue.memory.now ≡ M.holds self.old.queue.memory.now }
         ensures same { self.new.queue.memory.ghost_name ≡ self.old.queue.memory.ghost_name }

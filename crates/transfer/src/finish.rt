@@ -4,6 +4,7 @@ ghost use Rattle.std.specs.Prelude.{◌≡◌, ◌+◌, ◌<◌, ◌≤◌, leng
 ghost use Rattle.vring.specs.Programs.{leaves};
 ghost use Rattle.vring.specs.Rings.{ends_at};
 ghost use Rattle.vring.specs.Layouts.{ring_of};
+ghost use Rattle.chains.specs.Chains.{listed};
 ghost use Rattle.transfer.specs.Responses.{capacity, fill_prog, used_prog, finish_prog, Within};
 
 use chains::chain::Chain;
@@ -12,7 +13,7 @@ use vring::memory::GuestMemory;
 
 // How many bytes a response may have.
 pub fn capacity(chain: &Chain) -> usize
-    ensures { result ≡ capacity chain.now }
+    ensures { result ≡ capacity (listed chain.now) }
 {
     chain
         .descriptors()
@@ -23,8 +24,8 @@ pub fn capacity(chain: &Chain) -> usize
 
 // The response into the writable descriptors, in order; what finds no place is cut off.
 fn fill<M: GuestMemory>(m: &mut M, chain: &Chain, response: &[u8])
-    requires { Within (M.holds m.old) chain.now }
-    ensures then { m.new ≡ leaves M.acts (fill_prog chain.now response.now) m.old }
+    requires { Within (M.holds m.old) (listed chain.now) }
+    ensures then { m.new ≡ leaves M.acts (fill_prog (listed chain.now) response.now) m.old }
     ensures size { M.holds m.new ≡ M.holds m.old }
 {
     let mut rest = response;
@@ -61,9 +62,9 @@ pub fn finish<M: GuestMemory>(
     response: &[u8],
 )
     requires ring { ends_at (ring_of layout.now) ≤ M.holds m.old }
-    requires parts { Within (M.holds m.old) chain.now }
+    requires parts { Within (M.holds m.old) (listed chain.now) }
     requires long { length response.now < 65536 }
-    ensures then { m.new ≡ leaves M.acts (finish_prog (ring_of layout.now) k head chain.now response.now) m.old }
+    ensures then { m.new ≡ leaves M.acts (finish_prog (ring_of layout.now) k head (listed chain.now) response.now) m.old }
     ensures size { M.holds m.new ≡ M.holds m.old }
 {
     fill(m, chain, response);

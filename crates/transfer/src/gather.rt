@@ -2,6 +2,7 @@
 ghost use Rattle.std.specs.Prelude.{◌≡◌, ◌+◌, ◌≤◌, ◌++◌};
 ghost use Rattle.arrayvec.specs.ArrayVec.{array_vec_len};
 ghost use Rattle.vring.specs.Programs.{ends, leaves, get_bytes};
+ghost use Rattle.chains.specs.Chains.{listed};
 ghost use Rattle.transfer.specs.Requests.{request_prog};
 ghost use Rattle.transfer.specs.Responses.{Within};
 
@@ -25,11 +26,11 @@ fn take_bytes<M: GuestMemory>(m: &mut M, at: usize, n: usize, out: &mut Request)
     }
 }
 
-// The first bytes of what a chain asks, into `out`.
+// The first bytes of what a chain asks, into `out`, which is filled and not answered, as there is one for a call and no heap.
 pub fn gather<M: GuestMemory>(m: &mut M, chain: &Chain, out: &mut Request)
-    requires { Within (M.holds m.old) chain.now }
-    ensures value { out.new.items ≡ ends M.acts (request_prog 19 chain.now) m.old }
-    ensures then { m.new ≡ leaves M.acts (request_prog 19 chain.now) m.old }
+    requires { Within (M.holds m.old) (listed chain.now) }
+    ensures value { out.new.items ≡ ends M.acts (request_prog 19 (listed chain.now)) m.old }
+    ensures then { m.new ≡ leaves M.acts (request_prog 19 (listed chain.now)) m.old }
     ensures size { M.holds m.new ≡ M.holds m.old }
 {
     out.clear();

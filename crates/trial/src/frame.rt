@@ -1,4 +1,4 @@
-// Where a guest has its ring, and what room there is beside it.
+// Where a guest has its ring, and what room there is beside it: by sums of its own, which those of the reading are held to.
 use crate::random::Random;
 
 // A ring of `n` descriptors from `base` on, in a memory of `size` bytes.

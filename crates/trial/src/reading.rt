@@ -34,7 +34,7 @@ struct Device {
 }
 
 impl Device {
-    // The device that a state says, if it says one.
+    // The device that a state says, if it says one. This and the next are the reading's own, as all of it.
     fn read_from(state: &[u32]) -> Option<Device> {
         match state {
             [served, stopped] if *served < 65536 && *stopped <= 1 => Some(Device {

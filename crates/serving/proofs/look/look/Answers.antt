@@ -3,6 +3,7 @@ use Rattle.std.specs.Result.{is_ok, is_err}
 use Rattle.vring.specs.Programs.{pair, ends, leaves}
 use Rattle.vring.specs.Rings.{available_at}
 use Rattle.vring.specs.Layouts.{ring_of}
+use Rattle.chains.specs.Chains.{listed}
 use Rattle.transfer.specs.Responses.{Within}
 use Rattle.serving.specs.Turns.{next_prog}
 use Rattle.serving.specs.Sees.{Takes}
@@ -45,6 +46,6 @@ returns g c =
     let k = c.number.ensures.size in
     let v = subst (λ n. Takes (ends acts (next_prog r n c.args.served) m₁) c.take_next.result c.take_next.new.job) k c.take_next.ensures.value in
     let t = c.take_next.ensures.then ∙ ap (λ n. leaves acts (next_prog r n c.args.served) m₁) k in
-    let w = subst (λ n. OnOk c.take_next.result (Within n c.take_next.new.job.chain)) k c.take_next.ensures.within in
+    let w = subst (λ n. OnOk c.take_next.result (Within n (listed c.take_next.new.job.chain))) k c.take_next.ensures.within in
     let ok = c.in_ok-take_next.was in
-    record { value = rw b.0 (taken _ _ _ (ap is_ok ok) v); then = t ∙ sym b.1; within = λ _. subst (λ a. OnOk a (Within (g.M.GuestMemory.holds m) c.take_next.new.job.chain)) ok w; size = cc }
+    record { value = rw b.0 (taken _ _ _ (ap is_ok ok) v); then = t ∙ sym b.1; within = λ _. subst (λ a. OnOk a (Within (g.M.GuestMemory.holds m) (listed c.take_next.new.job.chain))) ok w; size = cc }

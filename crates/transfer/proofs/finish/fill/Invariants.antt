@@ -1,5 +1,6 @@
 use Rattle.std.proofs.Common.{◌≡◌, drop}
 use Rattle.vring.specs.Programs.{leaves}
+use Rattle.chains.specs.Chains.{listed}
 use Rattle.transfer.specs.Responses.{fill_prog}
 use Rattle.transfer.proofs.finish.fill.Given as goal
 
@@ -7,4 +8,4 @@ use Rattle.transfer.proofs.finish.fill.Given as goal
 abbrev pub invariant-loop-d : goal.invariant-loop-d
 invariant-loop-d g l =
     (g.M.GuestMemory.holds l.m ≡ g.M.GuestMemory.holds l.initial.m)
-    × (leaves g.M.GuestMemory.acts (fill_prog (drop l.d-index l.d-items) l.rest) l.m ≡ leaves g.M.GuestMemory.acts (fill_prog l.chain l.response) l.initial.m)
+    × (leaves g.M.GuestMemory.acts (fill_prog (drop l.d-index l.d-items) l.rest) l.m ≡ leaves g.M.GuestMemory.acts (fill_prog (listed l.chain) l.response) l.initial.m)
