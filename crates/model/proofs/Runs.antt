@@ -3,7 +3,7 @@ use Rattle.std.proofs.Common.{◌≡◌, ℕ, List, [], ◌∷◌, ◌++◌, len
 use Rattle.vring.specs.Rings.{Ring, ring_ok}
 use Rattle.device.specs.Device.{kept_after}
 use Rattle.model.specs.Serving.{State, serve_times}
-use Rattle.model.specs.Promises.{Sound, Job, kept_by, Recovers}
+use Rattle.model.specs.Promises.{Sound, Job, kept_by}
 use Rattle.model.specs.Histories.{Event, writes, serves, resets, after, Possible, ServedWell, Throughout, Did, at_end, OverAnyHistory}
 use Rattle.model.proofs.Serves.{stays_sound, stays_stopped, done_with}
 use Rattle.model.proofs.Asked.{as_asked}

@@ -18,10 +18,6 @@ all_digits : (w : List ℕ) → list_all is_ascii_digit w ≡ all_ascii_digits w
 all_digits [] = refl
 all_digits (b ∷ w) = ap (λ v. is_ascii_digit b && v) (all_digits w)
 
-pub no_number : (w : List ℕ) → list_all is_ascii_digit w ≡ false → number w ≡ None
-no_number [] e = refl
-no_number (b ∷ w) e = rw (sym (all_digits (b ∷ w)) ∙ e) refl
-
 pub digits_are_text : (w : List ℕ) → list_all is_ascii_digit w ≡ true → IsUtf8 w
 digits_are_text w e = IsUtf8-from_ascii w (IsAscii-from_digits w (own.to w (sym (all_digits w) ∙ e)))
 

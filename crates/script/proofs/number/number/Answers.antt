@@ -1,5 +1,5 @@
 use Rattle.std.proofs.Common.{sym, ◌∙◌}
-use Rattle.script.proofs.Values.{no_number, digits_are_text, parsed}
+use Rattle.script.proofs.Values.{digits_are_text, parsed}
 use Rattle.script.proofs.number.number.Goals as goal
 
 pub returns-in_default : goal.returns-in_default

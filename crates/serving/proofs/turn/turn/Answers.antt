@@ -1,7 +1,5 @@
-use Rattle.std.proofs.Common.{◌≤◌, Ok, sym, refl, ap, ◌∙◌, subst}
-use Rattle.vring.specs.Rings.{ends_at}
+use Rattle.std.proofs.Common.{Ok, refl, ap, ◌∙◌}
 use Rattle.vring.specs.Layouts.{ring_of}
-use Rattle.transfer.specs.Responses.{Within}
 use Rattle.device.specs.Responds.{device_of}
 use Rattle.serving.proofs.Sights.{seen_nothing, seen_halt, seen_ready}
 use Rattle.serving.proofs.Turning.{turn_stopped, turn_nothing, turn_halts, turn_serves}
