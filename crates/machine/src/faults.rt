@@ -7,11 +7,12 @@ ghost use Rattle.machine.specs.Steps.{ring_fault, state_fault, fault};
 
 use crate::machine::{Machine, Ring};
 use crate::refusal::Refusal;
+use script::within::lies_in;
 use serving::refusal::Refusal as Refused;
 use vring::ring::is_size;
 
 impl Ring {
-    // What is wrong with the ring, in a memory of `n` bytes: which of the tests of a layout fails, which does not say which.
+    // What is wrong with the ring, in a memory of `n` bytes: which of the tests of a layout fails, as a layout itself does not say.
     #[tactic(auto, using(crate::proofs::Sizes::size_few))]
     fn fault(self, n: usize) -> Refusal
         ensures { result ≡ ring_fault (record { size = self.size; base = self.base }) n }
@@ -19,9 +20,9 @@ impl Ring {
         if !is_size(self.size) {
             return Refusal::Places;
         }
-        let size = 14 * self.size + 4;
-        let n = n as u64;
-        if size <= n && self.base <= n - size {
+        // Of each place 8 bytes are its descriptor's, 2 its available entry's and 4 its used entry's; each count takes 2.
+        let len = 14 * self.size + 4;
+        if lies_in(n as u64, self.base, len) {
             Refusal::MemoryTooLong
         } else {
             Refusal::RingOutside
@@ -30,7 +31,7 @@ impl Ring {
 }
 
 impl Machine {
-    // What is wrong with the state.
+    // What is wrong with the state: which of its two numbers, as the test of a state does not say.
     fn state_fault(&self) -> Refusal
         ensures { result ≡ state_fault (bench_of self.now).state }
     {

@@ -14,6 +14,7 @@ use crate::print::{write_answer, write_changes, write_part};
 use crate::refusal::Refusal;
 use report::store::Store;
 use script::command::Command;
+use script::within::lies_in;
 use serving::done::Done;
 use serving::entries::{begin_anew, piece, try_serve};
 use serving::refusal::Refusal as Refused;
@@ -43,9 +44,7 @@ impl Machine {
     fn write_bytes(&mut self, at: u64, bytes: &[u8]) -> Result<(), Halt>
         ensures { Steps result (step (bytes_at at bytes.now) (bench_of self.old)) (bench_of self.old) (bench_of self.new) [] [] }
     {
-        let n = self.memory.len() as u64;
-        let count = bytes.len() as u64;
-        if count > n || at > n - count {
+        if !lies_in(self.memory.len() as u64, at, bytes.len() as u64) {
             return Err(Halt::from(Refusal::Outside(at)));
         }
         let from = at as usize;

@@ -9,4 +9,5 @@ mod line_error;
 mod number;
 pub mod parse;
 pub mod show;
+pub mod within;
 mod words;

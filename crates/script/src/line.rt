@@ -8,6 +8,7 @@ ghost use Rattle.script.specs.Parses.{Reads, LineRead};
 use crate::command::Command;
 use crate::line_error::LineError;
 use crate::number::{address, byte, number};
+use crate::within::lies_in;
 use crate::words::Words;
 use std::alloc::Global;
 use std::str;
@@ -49,8 +50,7 @@ fn row(heap: Global, words: Words) -> Result<Vec<u8>, LineError>
 fn laid(size: u64, at: u64, bytes: Vec<u8>) -> Option<Command>
     ensures { option_map cmd_of result ≡ laid_of size (Some (at, bytes.items)) }
 {
-    let len = bytes.len() as u64;
-    if len <= size && at <= size - len {
+    if lies_in(size, at, bytes.len() as u64) {
         Some(Command::Bytes { at, bytes })
     } else {
         None

@@ -1,4 +1,4 @@
-// Numbers in memory, as far as there is memory.
+// Numbers in memory, as far as there is memory. The worked examples write theirs alike: a library for the two would be contracts for test code.
 
 // Writes bytes from `at` on, as far as there is place.
 pub fn put_bytes(memory: &mut [u8], at: usize, bytes: &[u8]) {
