@@ -12,6 +12,8 @@ WARNINGS = -std=c11 -Wall -Wextra -Wpedantic -Werror
 
 bin := target/bin/dovrelzi
 lib := target/lib/libdovrelzi.a
+# What the library may need of the program that it is linked into, as its header says.
+needs := memcpy memset
 example := target/example/example
 sources := crates.txt $(shell find crates -path '*/out' -prune -o \( -name '*.rt' -o -name '*.antt' \) -print)
 
@@ -32,6 +34,7 @@ lib: $(lib)
 $(lib): $(sources)
 	cd crates/capi && rt lib
 	mkdir -p $(@D)
+	test "$$(nm -u crates/capi/out/libcapi.a | awk '$$1 == "U" { print $$2 }' | sort | xargs)" = "$(needs)"
 	cp crates/capi/out/libcapi.a $@
 
 install: $(lib)

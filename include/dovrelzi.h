@@ -1,7 +1,7 @@
 /*
  * Dovrelzi: the device half of a virtqueue, for a small block device.
  *
- * Link with libdovrelzi.a. It needs memmove and memset and nothing else: no function allocates, keeps anything between calls, or fails in
+ * Link with libdovrelzi.a. It needs memcpy and memset and nothing else: no function allocates, keeps anything between calls, or fails in
  * another way than by its answer. The rules that the functions follow are in docs/RULES.md; in short:
  *
  * A number in guest memory is two bytes, the lower first. A ring of n places takes 14 n + 4 bytes from `begins` on: n descriptors of four

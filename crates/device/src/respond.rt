@@ -35,6 +35,7 @@ fn place(kept: &[u8], request: &[u8]) -> Option<usize>
 #[tactic(auto, using(crate::proofs::Requests::put_block), unfolding(crate::specs::Device::is_read, crate::specs::Device::is_write, crate::specs::Device::response, crate::specs::Device::kept_after))]
 pub fn respond(kept: &mut [u8], request: &[u8]) -> Response
     ensures value { result.items ≡ response kept.old request.now }
+    ensures few { length result.items ≤ 17 }
     ensures after { kept.new ≡ kept_after kept.old request.now }
 {
     let Some(at) = place(kept, request) else {

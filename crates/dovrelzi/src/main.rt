@@ -78,11 +78,21 @@ fn start(rt: &HostRuntime) -> Result<(), Failure> {
     play(rt, &text)
 }
 
+// Says on standard error why the program fails. Where why a script ended cannot be said, what was wrong with saying it is tried.
+fn say(rt: &HostRuntime, failure: &Failure) {
+    let Err(e) = eprintln!(rt; "dovrelzi: {failure}") else {
+        return;
+    };
+    if let Failure::Halt(_) = failure {
+        let _ = eprintln!(rt; "dovrelzi: {e}");
+    }
+}
+
 fn main(rt: HostRuntime) -> ExitCode {
     match start(&rt) {
         Ok(()) => ExitCode::SUCCESS,
         Err(failure) => {
-            let _ = eprintln!(rt; "dovrelzi: {failure}");
+            say(&rt, &failure);
             ExitCode::FAILURE
         }
     }

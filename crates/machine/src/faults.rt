@@ -1,6 +1,5 @@
 // Which refusal it is, with its number and its place.
 ghost use Rattle.std.specs.Prelude.{◌≡◌};
-ghost use Rattle.serving.specs.Refusals.{refusal_number};
 ghost use Rattle.machine.specs.Refusals.{number_of, place_of};
 ghost use Rattle.machine.specs.Bench.{bench_of};
 ghost use Rattle.machine.specs.Steps.{ring_fault, state_fault, fault};
@@ -8,7 +7,6 @@ ghost use Rattle.machine.specs.Steps.{ring_fault, state_fault, fault};
 use crate::machine::{Machine, Ring};
 use crate::refusal::Refusal;
 use script::within::lies_in;
-use serving::refusal::Refusal as Refused;
 use vring::ring::is_size;
 
 impl Ring {
@@ -42,15 +40,15 @@ impl Machine {
         }
     }
 
-    // What is wrong where serving is refused.
-    pub fn fault(&self, refused: Refused, times: u64) -> Refusal
-        ensures { result ≡ fault (refusal_number refused) times (bench_of self.now) }
+    // What is wrong where serving is refused, by the number of the refusal.
+    pub fn fault(&self, number: u64, times: u64) -> Refusal
+        ensures { result ≡ fault number times (bench_of self.now) }
     {
-        match refused {
-            Refused::Ring => self.ring.fault(self.memory.len()),
-            Refused::State => self.state_fault(),
-            Refused::Contents => Refusal::Kept(self.kept.len() as u64),
-            Refused::Times => Refusal::Times(times),
+        match number {
+            1 => self.ring.fault(self.memory.len()),
+            2 => self.state_fault(),
+            3 => Refusal::Kept(self.kept.len() as u64),
+            _ => Refusal::Times(times),
         }
     }
 }

@@ -3,7 +3,7 @@ ghost use Rattle.std.specs.Prelude.{◌≡◌, ◌++◌, string_bytes, OnOk};
 ghost use Rattle.report.specs.Stores.{name_of};
 ghost use Rattle.machine.specs.Steps.{changes, answered, part_line};
 
-use report::lines::Line;
+use report::lines::{Line, piece};
 use report::store::Store;
 use serving::done::Done;
 use std::fmt;
@@ -44,8 +44,10 @@ pub fn write_answer(out: &mut String, done: Done) -> fmt::Result
 pub fn write_part(out: &mut String, n: u64, part: &[u8]) -> fmt::Result
     ensures { OnOk result (string_bytes out.new ≡ string_bytes out.old ++ part_line n part.now) }
 {
-    let bytes = if part.is_empty() { None } else { Some(part) };
-    let line = Line::Piece { n, bytes };
+    if !part.is_empty() {
+        return piece(out, n, part);
+    }
+    let line = Line::Piece { n, bytes: None };
     write!(out, "{line}")?;
     Ok(())
 }

@@ -91,7 +91,7 @@ impl Machine {
         let kept = self.kept.to_vec(heap)?;
         let done = match self.serve_all(times) {
             Ok(done) => done,
-            Err(refused) => return Err(Halt::from(self.fault(refused, times))),
+            Err(refused) => return Err(Halt::from(self.fault(refused.number(), times))),
         };
         write_changes(out, Store::Memory, &memory, &self.memory)?;
         write_changes(out, Store::Kept, &kept, &self.kept)?;

@@ -1,9 +1,9 @@
 // What happened, as text: one line each.
-ghost use Rattle.std.specs.Prelude.{Some};
-ghost use Rattle.report.specs.Lines.{line_of};
+ghost use Rattle.std.specs.Prelude.{◌≡◌, ◌++◌, Some, string_bytes, OnOk};
+ghost use Rattle.report.specs.Lines.{line_of, piece_of};
 
 use crate::store::Store;
-use script::show::Spaced;
+use script::show::{Spaced, write_bytes};
 use std::fmt;
 
 // What a line says.
@@ -60,4 +60,14 @@ impl<'a> fmt::Display for Line<'a> {
             Line::Refused { what, at } => writeln!(f, "refused {what} at {at}"),
         }
     }
+}
+
+// Writes the line of a part, byte by byte: where memory runs out the bytes that there was room for are written, as such a line may be long.
+pub fn piece(out: &mut String, n: u64, bytes: &[u8]) -> fmt::Result
+    ensures { OnOk result (string_bytes out.new ≡ string_bytes out.old ++ piece_of n (Some bytes.now)) }
+{
+    write!(out, "piece {n}:")?;
+    write_bytes(out, bytes)?;
+    writeln!(out, "")?;
+    Ok(())
 }

@@ -1,6 +1,5 @@
 pub mod Values
 pub mod Cuts
-pub mod Says
 pub mod Splits
 pub mod Texts
 pub mod Frees

@@ -1,6 +1,7 @@
 // What one line of a script says. What allocates is passed the allocator, as the library has it.
 ghost use Rattle.std.specs.Prelude.{◌≡◌, ◌≢◌, ℕ, codes, Some, vec_items};
 ghost use Rattle.std.specs.Option.{option_map};
+ghost use Rattle.std.specs.Str.{bytes_eq};
 ghost use Rattle.script.specs.Format.{row as row_of, laid as laid_of, bytes_in, only as only_of, alone, anew as anew_cmd, number_at as numbers_at, command as command_of, line as line_of};
 ghost use Rattle.script.specs.Commands.{cmd_of};
 ghost use Rattle.script.specs.Parses.{Reads, LineRead};
@@ -11,7 +12,13 @@ use crate::number::{address, byte, number};
 use crate::within::lies_in;
 use crate::words::Words;
 use std::alloc::Global;
-use std::str;
+
+// Whether a word is this one: its bytes are compared, since to read them as text first takes longer than what else a line needs.
+fn is(word: &[u8], name: &[u8]) -> bool
+    ensures { result ≡ bytes_eq word.now name.now }
+{
+    word == name
+}
 
 // The one number that words write.
 fn only(mut words: Words) -> Option<u64>
@@ -62,8 +69,8 @@ fn bytes(heap: Global, size: u64, mut words: Words) -> Result<Command, LineError
     ensures { Reads cmd_of result (bytes_in size words.entry) }
 {
     let word = words.next().ok_or(LineError::Unreadable)?;
-    let at = address(word).ok_or(LineError::Unreadable)?;
     let bytes = row(heap, words)?;
+    let at = address(word).ok_or(LineError::Unreadable)?;
     laid(size, at, bytes).ok_or(LineError::Unreadable)
 }
 
@@ -78,16 +85,16 @@ fn anew(mut words: Words) -> Option<Command>
 }
 
 // The command that a word other than `bytes` and the words behind it say, in a memory of any size.
-fn plain(word: &str, words: Words) -> Option<Command>
+fn plain(word: &[u8], words: Words) -> Option<Command>
     ensures { (size : ℕ) → word.now ≢ codes "bytes" → option_map cmd_of result ≡ command_of size word.now words.entry }
 {
     match word {
-        "memory" => only(words).map(Command::Memory),
-        "ring" => number_at(words).map(|(size, base)| Command::Ring { size, base }),
-        "kept" => only(words).map(Command::Kept),
-        "serve" => only(words).map(Command::Serve),
-        "anew" => anew(words),
-        "piece" => only(words).map(Command::Piece),
+        _ if is(word, b"memory") => only(words).map(Command::Memory),
+        _ if is(word, b"ring") => number_at(words).map(|(size, base)| Command::Ring { size, base }),
+        _ if is(word, b"kept") => only(words).map(Command::Kept),
+        _ if is(word, b"serve") => only(words).map(Command::Serve),
+        _ if is(word, b"anew") => anew(words),
+        _ if is(word, b"piece") => only(words).map(Command::Piece),
         _ => None,
     }
 }
@@ -96,10 +103,10 @@ fn plain(word: &str, words: Words) -> Option<Command>
 fn command(heap: Global, size: u64, word: &[u8], words: Words) -> Result<Command, LineError>
     ensures { Reads cmd_of result (command_of size word.now words.entry) }
 {
-    match str::from_utf8(word) {
-        Ok("bytes") => bytes(heap, size, words),
-        Ok(word) => plain(word, words).ok_or(LineError::Unreadable),
-        Err(_) => Err(LineError::Unreadable),
+    if is(word, b"bytes") {
+        bytes(heap, size, words)
+    } else {
+        plain(word, words).ok_or(LineError::Unreadable)
     }
 }
 

@@ -1,5 +1,5 @@
 // Commands as text.
-ghost use Rattle.std.specs.Prelude.{Some};
+ghost use Rattle.std.specs.Prelude.{◌≡◌, ◌++◌, Some, string_bytes, OnOk};
 ghost use Rattle.script.specs.Commands.{cmd_of};
 ghost use Rattle.script.specs.Shown.{spaced, shown};
 
@@ -19,6 +19,16 @@ impl<'a> fmt::Display for Spaced<'a> {
         }
         Ok(())
     }
+}
+
+// Writes bytes, each with a space before it, one after the other: where memory runs out those that there was room for are written.
+pub fn write_bytes(out: &mut String, bytes: &[u8]) -> fmt::Result
+    ensures { OnOk result (string_bytes out.new ≡ string_bytes out.old ++ spaced bytes.now) }
+{
+    for b in bytes {
+        write!(out, " {b}")?;
+    }
+    Ok(())
 }
 
 // A command as its line, without the line's end.

@@ -18,12 +18,12 @@ use Rattle.serving.specs.Sees.{Sees, Takes}
 use Rattle.serving.specs.declared.job.Job.{Job}
 
 -- a chain that was found bad, or good
-walk_bad : (w : Walk) (a : Result (Unit {0}) Breach) (xs ys : List Descriptor) → IsErr a → Follows w a xs ys → w ≡ bad
+pub walk_bad : (w : Walk) (a : Result (Unit {0}) Breach) (xs ys : List Descriptor) → IsErr a → Follows w a xs ys → w ≡ bad
 walk_bad bad a xs ys e f = refl
 walk_bad (goes ds) (Ok u) xs ys e f = absurd (true≢false (sym e))
 walk_bad (goes ds) (Err b) xs ys e f = absurd (true≢false (sym f.0))
 
-walk_good : (w : Walk) (a : Result (Unit {0}) Breach) (xs ys : List Descriptor) → xs ≡ [] → IsOk a → Follows w a xs ys → w ≡ goes ys
+pub walk_good : (w : Walk) (a : Result (Unit {0}) Breach) (xs ys : List Descriptor) → xs ≡ [] → IsOk a → Follows w a xs ys → w ≡ goes ys
 walk_good bad (Ok u) xs ys z e f = absurd (true≢false (sym f))
 walk_good bad (Err b) xs ys z e f = absurd (true≢false (sym e))
 walk_good (goes ds) a xs ys z e f = ap goes (sym (f.1 ∙ ap (λ l. l ++ ds) z))

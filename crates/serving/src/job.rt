@@ -1,5 +1,5 @@
 // What a look finds.
-ghost use Rattle.std.specs.Prelude.{◌≡◌, []};
+ghost use Rattle.std.specs.Prelude.{◌≡◌, ◌≤◌, [], length};
 ghost use Rattle.chains.specs.Chains.{listed};
 
 use arrayvec::ArrayVec;
@@ -13,6 +13,7 @@ pub struct Job {
     pub chain: Chain,
     pub request: Request,
     pub head: u16,
+    ghost few: { length request.items ≤ 19 },
 }
 
 impl Job {

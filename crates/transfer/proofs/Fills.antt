@@ -1,7 +1,7 @@
 -- Steps of filling a response in.
-use Rattle.std.proofs.Common.{◌≡◌, ℕ, ◌+◌, ◌<◌, min, true, false, cond, List, [], ◌∷◌, length, get_or, take, drop, sym, refl, ap, ◌∙◌, inl, inr, arith}
+use Rattle.std.proofs.Common.{◌≡◌, ℕ, ◌+◌, ◌-◌, ◌<◌, ◌≤◌, min, true, false, cond, List, [], ◌∷◌, length, get_or, take, drop, sym, refl, ap, ◌∙◌, inl, inr, arith}
 use Rattle.std.specs.List.{sum_by}
-use Rattle.std.proofs.lemmas.List.{at_drop_more, drop_all, take_all}
+use Rattle.std.proofs.lemmas.List.{at_drop_more, drop-drop, drop_all, take_all, length-drop}
 use Rattle.std.proofs.lemmas.List.Sums.{sum_by-cons}
 use Rattle.std.proofs.lemmas.Bool.{cases_lt}
 use Rattle.chains.specs.Descriptors.{writable}
@@ -21,13 +21,15 @@ module _ {M : Type 0} (acts : Acts M) (ds : List Descriptor) (i : ℕ) (d : Desc
   fill_write m₁ w e = sym (at_drop_more (λ qs. leaves acts (fill_prog qs x) m) ds i d h ∙ rw w (leaves_by acts (put_bytes (get_or ds i d).addr (take (get_or ds i d).len x)) _ m m₁ tt refl e))
 
 -- so many bytes of what is left: the descriptor's, or all
-pub cut : (len : ℕ) (a : List ℕ) → (take (min len (length a)) a ≡ take len a) × (drop (min len (length a)) a ≡ drop len a)
-cut len a =
-    elim (cases_lt len (length a)) [
-      | inl e ↦ let k : min len (length a) ≡ len = omega arith in rw k (refl, refl)
+pub cut : (len u : ℕ) (a : List ℕ) → let n = min len (length a - u) in (take n (drop u a) ≡ take len (drop u a)) × (drop (u + n) a ≡ drop len (drop u a))
+cut len u a =
+    elim (cases_lt len (length a - u)) [
+      | inl e ↦ let k : min len (length a - u) ≡ len = omega arith in rw k (refl, sym (drop-drop len u a))
       | inr e ↦
-          let k : min len (length a) ≡ length a = omega arith in
-          rw k (take_all (length a) a (omega arith) ∙ sym (take_all len a e), drop_all (length a) a (omega arith) ∙ sym (drop_all len a e))
+          let k : min len (length a - u) ≡ length a - u = omega arith in
+          let l : length (drop u a) ≤ len = rw length-drop (omega arith) in
+          let j : length (drop u a) ≤ length a - u = rw length-drop (omega arith) in
+          rw k (take_all (length a - u) (drop u a) j ∙ sym (take_all len (drop u a) l), sym (drop-drop (length a - u) u a) ∙ (drop_all (length a - u) (drop u a) j ∙ sym (drop_all len (drop u a) l)))
     ]
 
 -- the capacity as a sum over the descriptors

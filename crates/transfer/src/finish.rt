@@ -28,13 +28,13 @@ fn fill<M: GuestMemory>(m: &mut M, chain: &Chain, response: &[u8])
     ensures then { m.new ≡ leaves M.acts (fill_prog (listed chain.now) response.now) m.old }
     ensures size { M.holds m.new ≡ M.holds m.old }
 {
-    let mut rest = response;
+    let mut used = 0;
     for d in chain.descriptors() {
         if d.is_writable() {
-            let n = (d.len as usize).min(rest.len());
-            let (part, after) = rest.split_at(n);
-            m.put_bytes(d.addr as usize, part);
-            rest = after;
+            let left = response.len() - used;
+            let n = (d.len as usize).min(left);
+            m.put_bytes(d.addr as usize, &response[used..used + n]);
+            used += n;
         }
     }
 }

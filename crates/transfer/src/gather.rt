@@ -30,6 +30,7 @@ fn take_bytes<M: GuestMemory>(m: &mut M, at: usize, n: usize, out: &mut Request)
 pub fn gather<M: GuestMemory>(m: &mut M, chain: &Chain, out: &mut Request)
     requires { Within (M.holds m.old) (listed chain.now) }
     ensures value { out.new.items ≡ ends M.acts (request_prog 19 (listed chain.now)) m.old }
+    ensures few { array_vec_len out.new ≤ 19 }
     ensures then { m.new ≡ leaves M.acts (request_prog 19 (listed chain.now)) m.old }
     ensures size { M.holds m.new ≡ M.holds m.old }
 {

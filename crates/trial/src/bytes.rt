@@ -11,13 +11,3 @@ pub fn put_bytes(memory: &mut [u8], at: usize, bytes: &[u8]) {
 pub fn put_number(memory: &mut [u8], at: usize, number: u16) {
     put_bytes(memory, at, &number.to_le_bytes());
 }
-
-// One byte, or 0 behind the end.
-fn byte(memory: &[u8], at: usize) -> u8 {
-    memory.get(at).copied().unwrap_or(0)
-}
-
-// The number of two bytes, the lower first.
-pub fn number(memory: &[u8], at: usize) -> u16 {
-    u16::from_le_bytes([byte(memory, at), byte(memory, at.wrapping_add(1))])
-}

@@ -1,6 +1,6 @@
 // The entries beside the plain reading, on one memory after another.
 use crate::guest::Guest;
-use crate::reading::{part_of, reset, serve};
+use crate::reading::{Answer, part_of, reset, serve};
 use crate::refusals::budget;
 use crate::tally::Tally;
 use serving::done::Done;
@@ -15,13 +15,25 @@ struct Contest<'a> {
     tally: &'a mut Tally,
 }
 
+// The answer of an entry, in the reading's words.
+impl From<Done> for Answer {
+    fn from(done: Done) -> Answer {
+        match done {
+            Done::Served(n) => Answer::Served(n),
+            Done::Stopped => Answer::Stopped,
+            Done::Anew => Answer::Anew,
+            Done::Refused(n) => Answer::Refused(n),
+        }
+    }
+}
+
 impl Contest<'_> {
     // Serves on both sides; true where they agree.
     fn serves(&mut self, times: u64) -> Result<bool, AllocError> {
         let mut other = self.guest.clone()?;
         let done = self.guest.serve(times);
         self.note(done, &other);
-        Ok(serve(self.heap, &mut other, times)? == done && other == self.guest)
+        Ok(serve(self.heap, &mut other, times)? == Answer::from(done) && other == self.guest)
     }
 
     // Counts what a call did to the guest that was like this one before.
@@ -35,7 +47,7 @@ impl Contest<'_> {
         let mut other = self.guest.clone()?;
         let done = begin_anew(&mut self.guest.state);
         self.tally.note(done, 0, false);
-        Ok(reset(&mut other.state) == done && other == self.guest)
+        Ok(reset(&mut other.state) == Answer::from(done) && other == self.guest)
     }
 
     // Asks both for the part of a descriptor; true where they agree.

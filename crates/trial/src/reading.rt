@@ -1,13 +1,21 @@
-// A plain reading of the rules of the ring, for the entries to be held to. It shares no code with them but the type of the answer, with
-// its numbers of refusals: so it has a ring, a device with its state, a capacity and a response of its own.
+// A plain reading of the rules of the ring, for the entries to be held to. It shares no code with them: so it has numbers in memory, a
+// ring, a device with its state, a capacity, a response and an answer of its own.
 ghost use Rattle.std.specs.Prelude.{◌^◌, ◌<◌};
 
-use crate::bytes::{number, put_bytes, put_number};
+use crate::bytes::put_bytes;
 use crate::descriptor::Descriptor;
 use crate::guest::Guest;
-use serving::done::Done;
 use std::alloc::{AllocError, Global};
 use std::ops::Range;
+
+// What a call answers.
+#[derive(Clone, Copy, PartialEq, Eq)]
+pub enum Answer {
+    Served(u64),
+    Stopped,
+    Anew,
+    Refused(u64),
+}
 
 // A ring of so many places, which begins there. It finds the ring's parts by sums of its own, and not by those of the guest's
 // frame, so that a wrong sum on either side shows.
@@ -52,6 +60,18 @@ impl Device {
             *stopped = u32::from(self.has_stopped);
         }
     }
+}
+
+// The number of two bytes.
+fn number(memory: &[u8], at: usize) -> u16 {
+    let low = memory.get(at).copied().unwrap_or(0);
+    let high = memory.get(at.wrapping_add(1)).copied().unwrap_or(0);
+    low as u16 + 256 * high as u16
+}
+
+// Sets the two bytes of a number.
+fn put_number(memory: &mut [u8], at: usize, number: u16) {
+    put_bytes(memory, at, &[(number % 256) as u8, (number / 256) as u8]);
 }
 
 impl Part {
@@ -134,7 +154,7 @@ impl Ring {
 
     // How many chains wait.
     fn pending(self, memory: &[u8], served: u16) -> u16 {
-        number(memory, self.available()).wrapping_sub(served)
+        ((number(memory, self.available()) as u32 + 65536 - served as u32) % 65536) as u16
     }
 
     // Whether a part lies in memory, and wholly before the ring or wholly behind it.
@@ -209,16 +229,14 @@ fn respond(heap: Global, kept: &mut [u8], request: &[u8]) -> Result<Vec<u8>, All
     let at = 16 * request.get(1).copied().unwrap_or(0) as usize;
     let is_kept = at + 16 <= kept.len();
     let mut response = Vec::new(heap);
-    match request {
-        [0, _] if is_kept => {
-            response.push(0)?;
-            response.extend_from_slice(&kept[at..at + 16])?;
-        }
-        [1, _, bytes @ ..] if is_kept && bytes.len() == 16 => {
-            kept[at..at + 16].copy_from_slice(bytes);
-            response.push(0)?;
-        }
-        _ => response.push(255)?,
+    if request.len() == 2 && request[0] == 0 && is_kept {
+        response.push(0)?;
+        response.extend_from_slice(&kept[at..at + 16])?;
+    } else if request.len() == 18 && request[0] == 1 && is_kept {
+        kept[at..at + 16].copy_from_slice(&request[2..18]);
+        response.push(0)?;
+    } else {
+        response.push(255)?;
     }
     Ok(response)
 }
@@ -262,7 +280,7 @@ impl Reading<'_> {
         let entry = self.ring.entry(self.device.served);
         put_number(self.memory, entry, head);
         put_number(self.memory, entry + 2, (len % 65536) as u16);
-        self.device.served = self.device.served.wrapping_add(1);
+        self.device.served = ((self.device.served as u32 + 1) % 65536) as u16;
         put_number(self.memory, self.ring.used(), self.device.served);
         Ok(())
     }
@@ -291,28 +309,28 @@ impl Reading<'_> {
     }
 
     // What is answered then.
-    fn done(&self) -> Done {
+    fn answer(&self) -> Answer {
         if self.device.has_stopped {
-            Done::Stopped
+            Answer::Stopped
         } else {
-            Done::Served(self.pending() as u64)
+            Answer::Served(self.pending() as u64)
         }
     }
 }
 
 // Serves at most `times` chains.
-pub fn serve(heap: Global, g: &mut Guest, times: u64) -> Result<Done, AllocError> {
+pub fn serve(heap: Global, g: &mut Guest, times: u64) -> Result<Answer, AllocError> {
     let Some(ring) = Ring::of(g) else {
-        return Ok(Done::Refused(1));
+        return Ok(Answer::Refused(1));
     };
     let Some(device) = Device::read_from(&g.state) else {
-        return Ok(Done::Refused(2));
+        return Ok(Answer::Refused(2));
     };
     if g.kept.len() > 4096 {
-        return Ok(Done::Refused(3));
+        return Ok(Answer::Refused(3));
     }
     if times > 1000 {
-        return Ok(Done::Refused(4));
+        return Ok(Answer::Refused(4));
     }
     let mut reading = Reading {
         heap,
@@ -323,16 +341,16 @@ pub fn serve(heap: Global, g: &mut Guest, times: u64) -> Result<Done, AllocError
     };
     reading.serve_all(times)?;
     reading.device.write_to(&mut g.state);
-    Ok(reading.done())
+    Ok(reading.answer())
 }
 
 // Resets the device.
-pub fn reset(state: &mut [u32]) -> Done {
+pub fn reset(state: &mut [u32]) -> Answer {
     if state.len() != 2 {
-        return Done::Refused(2);
+        return Answer::Refused(2);
     }
     state.fill(0);
-    Done::Anew
+    Answer::Anew
 }
 
 // The part that descriptor `at` names.

@@ -19,10 +19,11 @@ loop-d-preserved g c =
             w.take_bytes.ensures.size ∙ c.loop-d.invariant.0,
             ap (λ l. l ++ ends acts p w.take_bytes.new.m) w.take_bytes.ensures.value ∙ (append_assoc q (ends acts (get_bytes k d.addr) m) (ends acts p w.take_bytes.new.m) ∙ (ap (λ l. q ++ l) (sym b.0) ∙ c.loop-d.invariant.1)),
             sym b.1 ∙ c.loop-d.invariant.2,
+            omega (arith, room, w.min-n.ensures, w.take_bytes.ensures.long, c.loop-d.invariant.3),
           ))
       | goal.else-not-is_writable w ↦
           let b = gather_skip acts ds i _ (19 - length q) m c.loop-d-test.true (sym c.is_writable.ensures ∙ w.if-not-is_writable.false) in
-          rw (w.out-is, w.m-is) (c.loop-d.invariant.0, ap (λ l. q ++ l) (sym b.0) ∙ c.loop-d.invariant.1, sym b.1 ∙ c.loop-d.invariant.2)
+          rw (w.out-is, w.m-is) (c.loop-d.invariant.0, ap (λ l. q ++ l) (sym b.0) ∙ c.loop-d.invariant.1, sym b.1 ∙ c.loop-d.invariant.2, c.loop-d.invariant.3)
     ]
 
 pub returns : goal.returns
@@ -31,4 +32,4 @@ returns g c =
     let acts = g.M.GuestMemory.acts in let ds = c.descriptors-d-items.result.now in let n = 19 - length c.loop-d.out.items in
     let e = at_drop_all (λ qs. ends acts (request_prog n qs) c.loop-d.m) ds c.loop-d.d-index c.loop-d-test.false in
     let l = at_drop_all (λ qs. leaves acts (request_prog n qs) c.loop-d.m) ds c.loop-d.d-index c.loop-d-test.false in
-    record { value = sym (append-nil c.loop-d.out.items) ∙ (ap (λ x. c.loop-d.out.items ++ x) (sym e) ∙ c.loop-d.invariant.1); then = sym l ∙ c.loop-d.invariant.2; size = c.loop-d.invariant.0 }
+    record { value = sym (append-nil c.loop-d.out.items) ∙ (ap (λ x. c.loop-d.out.items ++ x) (sym e) ∙ c.loop-d.invariant.1); then = sym l ∙ c.loop-d.invariant.2; few = c.loop-d.invariant.3; size = c.loop-d.invariant.0 }

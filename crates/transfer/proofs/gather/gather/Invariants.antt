@@ -1,4 +1,4 @@
-use Rattle.std.proofs.Common.{◌≡◌, ◌-◌, ◌++◌, length, drop}
+use Rattle.std.proofs.Common.{◌≡◌, ◌-◌, ◌≤◌, ◌++◌, length, drop}
 use Rattle.vring.specs.Programs.{ends, leaves}
 use Rattle.chains.specs.Chains.{listed}
 use Rattle.transfer.specs.Requests.{request_prog}
@@ -10,3 +10,4 @@ invariant-loop-d g l =
     (g.M.GuestMemory.holds l.m ≡ g.M.GuestMemory.holds l.initial.m)
     × (l.out.items ++ ends acts p l.m ≡ ends acts (request_prog 19 (listed l.chain)) l.initial.m)
     × (leaves acts p l.m ≡ leaves acts (request_prog 19 (listed l.chain)) l.initial.m)
+    × (length l.out.items ≤ 19)
