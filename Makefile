@@ -12,7 +12,7 @@ WARNINGS = -std=c11 -Wall -Wextra -Wpedantic -Werror
 
 bin := target/bin/dovrelzi
 lib := target/lib/libdovrelzi.a
-# What the library may need of the program that it is linked into, as its header says.
+# What the library needs of the program that it is linked into, as its header says: these and nothing else.
 needs := memcpy memset
 example := target/example/example
 sources := crates.txt $(shell find crates -path '*/out' -prune -o \( -name '*.rt' -o -name '*.antt' \) -print)

@@ -22,7 +22,8 @@ pub fn capacity(chain: &Chain) -> usize
         .sum()
 }
 
-// The response into the writable descriptors, in order; what finds no place is cut off.
+// The response into the writable descriptors, in order; what finds no place is cut off. Its parts are found by an index: with what is left
+// as a slice the library for C needs `memmove` beside `memcpy` and `memset`.
 fn fill<M: GuestMemory>(m: &mut M, chain: &Chain, response: &[u8])
     requires { Within (M.holds m.old) (listed chain.now) }
     ensures then { m.new ≡ leaves M.acts (fill_prog (listed chain.now) response.now) m.old }

@@ -44,20 +44,20 @@ struct Device {
 impl Device {
     // The device that a state says, if it says one. This and the next are the reading's own, as all of it.
     fn read_from(state: &[u32]) -> Option<Device> {
-        match state {
-            [served, stopped] if *served < 65536 && *stopped <= 1 => Some(Device {
-                served: *served as u16,
-                has_stopped: *stopped == 1,
-            }),
-            _ => None,
+        if state.len() != 2 || state[0] >= 65536 || state[1] > 1 {
+            return None;
         }
+        Some(Device {
+            served: state[0] as u16,
+            has_stopped: state[1] == 1,
+        })
     }
 
     // Sets the two numbers of a state.
     fn write_to(self, state: &mut [u32]) {
-        if let [served, stopped] = state {
-            *served = u32::from(self.served);
-            *stopped = u32::from(self.has_stopped);
+        if state.len() == 2 {
+            state[0] = self.served as u32;
+            state[1] = if self.has_stopped { 1 } else { 0 };
         }
     }
 }
